@@ -4,6 +4,9 @@
   progress. Either no run was, and both print the same; or the ends are the same, each by as few faults and with the same script, but
   where that makes no progress. Behind such a script the calm of the newest master makes all of its 10,000 events, and what `play` tells
   last is as without them. Just the deep runs that make no progress were cut.
+- merged_ends_are_those_of_all_runs: some inputs are explored as ever, and once more with `--merge`, by one thread and by four, which
+  print the same. The ends are the same, each by as few faults and as few events, and the least come first; to each its script leads
+  `play`, with no line refused.
 """
 import json
 
@@ -18,6 +21,9 @@ STALLED = ONE + "start 1 0\ncalm 1 before pending\nlaunch 1 r 0 0\nstep 1.1\ndel
 ORPHAN = ONE + "start 1 0\ncalm 1 before pending\ncrash 1 0\nstart 2 0\n"
 # What is explored: an input, the most faults, and how many events a deep run makes by itself. No run that makes progress makes as many.
 ASKED = ((ONE, 1, 1000), (STALLED, 0, 5000), (STALLED, 1, 120), (ORPHAN, 1, 1000))
+# What is explored with `--merge`: an input, and the most faults. Threads work where these are two. The job commit of one reduce is short enough for two.
+TWO = HEAD + '"reduces":2}\n'
+MERGED = ((ONE, 0), (ONE, 1), (TWO, 1), (STALLED, 1), (ORPHAN, 1), (ONE + "start 1 0\ncalm 1 before started\n", 2), (TWO + "start 1 0\ncalm 1\n", 2))
 
 
 class Explored:
@@ -80,4 +86,44 @@ def deep(program, library, room):
         ended += stalled
     tally.count(ended, "runs that were ended", "none")
     tally.says = f"{ended} runs ended without progress"
+    return tally
+
+
+def played(end):
+    """What `play` prints of a run that comes to this end."""
+    winners = "".join(f"r {number} {winner or 'none'}\n" for number, winner in enumerate(end["winners"]))
+    return f"{winners}marker {'yes' if end['marker'] else 'no'}\noutcome {end['outcome']}\n{end['seen']}".encode()
+
+
+def merged(program, library, room):
+    """Compares the ends of all runs with those that come where runs that go on alike are made once."""
+    tally = Tally("merged_ends_are_those_of_all_runs")
+    count = 0
+    for n, (text, faults) in enumerate(MERGED):
+        told = []
+        for how in ([], ["--merge", "--jobs", "1"], ["--merge", "--jobs", "4"]):
+            words = [program, "explore", "--json", "--faults", str(faults), *how]
+            with Program(words, library, f"{room}/merged.{n}.{len(told)}", stack=STACK) as explore:
+                explore.gives(text.encode())
+                told.append(explore.run(seconds=60))
+        tally.count(all(it.status == 0 for it in told), text, told[1])
+        tally.count(told[1].out == told[2].out, f"by four threads of {text}", told[2])
+        if tally.wrong:
+            return tally
+        usual, merged = Explored(told[0].out), Explored(told[1].out)
+        all_of = {"all": True, "ends": len(usual.ends), "faults": faults, "sequential": usual.all["sequential"]}
+        tally.count(usual.is_whole() and usual.ends.keys() == merged.ends.keys() and merged.all == all_of, f"the ends of {text}", told[1])
+        sizes = [(it["faults"], it["events"]) for it in merged.ends.values()]
+        tally.count(sizes == sorted(sizes), f"the order of the ends of {text}", told[1])
+        job = text.split("\n", 1)[0]
+        with Program([program, "play"], library, f"{room}/least.{n}", stack=STACK) as play:
+            for key, end in merged.ends.items():
+                also = usual.ends.get(key, end)
+                is_as_short = [end["faults"], end["events"]] == [also.get("faults"), also.get("events")]
+                for it in (end, also):
+                    play.gives(f"{job}\n{it['script']}".encode())
+                    run = play.run()
+                    tally.count(is_as_short and (run.status, run.out) == (0, played(end)), f"{key} of {text}", run)
+        count += len(merged.ends)
+    tally.says = f"{count} ends"
     return tally

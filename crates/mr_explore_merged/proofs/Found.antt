@@ -9,6 +9,7 @@ use Rattle.mr_explore_places.specs.declared.bounds.Bounds.{Bounds}
 use Rattle.mr_explore_places.proofs.Doing.{enough, parts_taken}
 use Rattle.mr_explore_least.specs.Laws.{EachHasOneEnd}
 use Rattle.mr_explore_least.specs.Table.{Arrival, Table}
+use Rattle.mr_explore_noted.specs.Noting as noting
 use Rattle.mr_explore_noted.specs.Noting.{Tells}
 use Rattle.mr_explore_noted.specs.Searched.{HasAll}
 use Rattle.mr_explore_faults.specs.declared.fault.Fault.{Fault}
@@ -34,6 +35,9 @@ module _ (most budget : ℕ) (first : Exploring) where
   ends_once a b c d faults events =
       let same : c.0.played.events ≡ d.0.played.events = ap (λ (x : Arrival). x.events) (sym c.3) ∙ (events ∙ ap (λ (x : Arrival). x.events) d.3) in
       ap (λ (x : Arrival). x.end) c.3 ∙ (one_end most budget a.faults b.faults first c.0 d.0 c.1 d.1 same ∙ ap (λ (x : Arrival). x.end) (sym d.3))
+
+pub each_has_one_end : (bounds : Bounds) (first : Exploring) → EachHasOneEnd (noting.CameBy void end_of events_of explored bounds first)
+each_has_one_end bounds first a b c d = ends_once bounds.steps bounds.faults first a b (c.run, c.one, c.goes, c.is) (d.run, d.one, d.goes, d.is)
 
 -- ---- a search
 

@@ -4,7 +4,7 @@ ghost use Rattle.mr_explore_merged.specs.Laws.{MergedOrRefused, OneTextIsPrinted
 use mr_explore::explored_or_refused;
 use mr_sim_commands::one_seq_text;
 
-/// Of an input of which no run comes near a limit one text is printed at most.
+/// Of an input of which no run comes near a limit one text is printed at most, by however many threads.
 pub fn one_merged_text()
     ensures { OneTextIsPrinted }
 {
@@ -12,7 +12,7 @@ pub fn one_merged_text()
     explored_or_refused();
 }
 
-/// Nothing is printed of an input whose job text or script is refused.
+/// Nothing is printed of an input whose job text or script is refused. Where something is printed, the script and the start of the first master pass no limit.
 pub fn merged_or_refused()
     ensures { MergedOrRefused }
 {}

@@ -1,6 +1,6 @@
 //! Each end of all runs of an input with few faults, and its least script.
 //!
-//! It is what an option `--merge` of `explore` would print: runs that go on alike are made once. No program has that option yet.
+//! It is what `mrsim explore --merge` prints: runs that go on alike are made once.
 //!
 //! # What is proved
 //!
@@ -9,11 +9,13 @@
 //!   row with its end, and does not come before that row's run. The rows rise.
 //! - **Where an end is sought** the text tells the least number of faults with which it is met (`AreEnough`).
 //! - **Each script leads to the end beside it**, by `play`'s own definition (`LeadToEnds`).
-//! - Of an input of which no run comes near a limit one text is printed (`one_merged_text`).
-//! - Nothing is printed of an input that is refused (`merged_or_refused`).
+//! - **Threads change nothing** (`merged_by_threads`): its contract is that of `merged_output`, word for word. Of an input of which no run comes near a limit
+//!   one text is printed (`one_merged_text`).
+//! - Nothing is printed of an input that is refused, and where something is printed the script and the first master's start pass no limit
+//!   (`merged_or_refused`).
 //!
-//! Neither proved nor tested yet: that it succeeds where there is memory, that fewer runs are made than there are, and that `not` is told wherever a run would
-//! pass a limit (where it is told, one would).
+//! Tested alone: that it succeeds where there is memory (tests_explore). Neither: that fewer runs are made than there are, and that `not` is told wherever a run
+//! would pass a limit (where it is told, one would).
 //!
 //! # Choices
 //!
@@ -25,6 +27,7 @@
 //!   took 6.4 GB.
 //! - **A goal** is sought by 0 faults, then by 1, and so on. A job with one split has 1, 1,148 and 847,413 runs with at most 0, 1 and 2 faults, so the
 //!   earlier searches cost little.
+//! - **Threads** are mr_explore_workers'. They divide the rows, and share nothing.
 //! - **A run that a limit ends** is told as of `explore`, where one was found: the ends are then `not` those `of all runs`.
 //!
 //! # How it is proved
@@ -34,7 +37,7 @@
 //!   (`AreLeast` of `specs/Least`). A found run that is void has no row, so `proofs/Alive` shows first that what was made and found is enough without such.
 //! - **`proofs/Found` is of an exploration's runs.** `each_end_is_found` of mr_explore_places does not serve here: near a limit a run may not go on as one
 //!   that is like it does. `no_careful_end_is_lost` of mr_explore_likeness speaks of the runs of which no look ahead passes a limit.
-//! - **Runs with the same events come to one end** (`proofs/Configs`), since a run keeps its config.
+//! - **Runs with the same events come to one end** (`proofs/Configs`), since a run keeps its config. That is the premise of joined tables.
 //! - **`JournalMismatch` has no reason** in `MergedFails`: a script that is played leads to the end beside it, or is refused, and that it is not refused is
 //!   not proved. mr_explore leaves it open likewise.
 #![tactic(auto)]
@@ -48,5 +51,5 @@ mod searching;
 mod watching;
 
 pub use laws::{merged_or_refused, one_merged_text};
-pub use output::merged_output;
+pub use output::{merged_by_threads, merged_output};
 pub use question::Question;

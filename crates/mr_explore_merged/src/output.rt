@@ -8,7 +8,7 @@ ghost use Rattle.mr_explore.specs.Ends.{LeadsTo};
 ghost use Rattle.mr_script_writer.specs.Repeating.{repeating};
 ghost use Rattle.mr_explore_merged.specs.Merged.{IsFoundOf, LeadToEnds, MergedFails, PrintsMerged, sought, told_text};
 
-use crate::finding::{LeastFound, found};
+use crate::finding::{LeastFound, found, found_by_threads};
 use crate::question::Question;
 use mr_explore::{Form, Watch, check_script, sequential_of};
 use mr_explore_ends::Sequential;
@@ -17,6 +17,7 @@ use mr_script::Expectation;
 use mr_script_writer::put_script;
 use mr_sim_commands::{Printed, SimFault};
 use std::alloc::{AllocError, Global};
+use std::thread::Threads;
 
 /// What `explore --merge` prints of an input, which is a job text and a script behind it: each end of all runs of the input with at most
 /// `asked.faults` faults, and the least script to it. Where an end is sought, runs with more faults than it needs are not asked for.
@@ -35,6 +36,25 @@ pub fn merged_output<W: Watch>(
     ensures fault { IfErr result (MergedFails asked.now.faults input.now) }
 {
     let least = found(alloc, input, asked, watch)?;
+    merged_text(alloc, input, &least, asked)
+}
+
+/// What `explore --merge` prints of an input, as `merged_output` has it, by so many threads.
+///
+/// Its faults are those of `merged_output`. One thread makes all runs where fewer than two are asked for, or where a run has one fault at most.
+pub fn merged_by_threads<R: Threads + Sync, W: Watch>(
+    rt: &R,
+    alloc: Global,
+    threads: usize,
+    input: &[u8],
+    asked: &Question<'_>,
+    watch: &W,
+) -> Result<Printed, SimFault>
+    ensures ok { IfOk result (λ v. PrintsMerged asked.now input.now v.text.items) }
+    ensures met { IfOk result (λ v. v.met ≡ true) }
+    ensures fault { IfErr result (MergedFails asked.now.faults input.now) }
+{
+    let least = found_by_threads(rt, alloc, threads, input, asked, watch)?;
     merged_text(alloc, input, &least, asked)
 }
 

@@ -1,4 +1,4 @@
-//! The least runs to the ends of all runs of an input.
+//! The least runs to the ends of all runs of an input, by one thread or by several.
 
 ghost use Rattle.std.specs.Prelude.{◌≡◌, ◌≤◌, ℕ, List, IfOk, IfErr};
 ghost use Rattle.mr_explore.specs.Faults.{most_events};
@@ -11,11 +11,13 @@ use mr_explore::{Watch, sim_fault};
 use mr_explore_least::LeastTable;
 use mr_explore_noted::least_runs;
 use mr_explore_places::Bounds;
+use mr_explore_workers::least_runs_by_threads;
 use mr_play::mr_world::MAX_EVENTS;
 use mr_sim_commands::SimFault;
 use std::alloc::Global;
+use std::thread::Threads;
 
-// In so many rows places are kept from which something may depart, and in as many those of runs that depart no more.
+// In so many rows places are kept from which something may depart, by all threads together, and in as many those of runs that depart no more.
 const ROWS: usize = 4096;
 
 // Runs that depart no more are kept where the number of events of their scripts is a multiple of this.
@@ -69,5 +71,46 @@ fn search_from<W: Watch>(
     match least_runs(alloc, run, bounds_for(faults), &Watching { watch }) {
         Ok(table) => Ok(table),
         Err(fault) => Err(sim_fault(fault)),
+    }
+}
+
+/// The same as `search`, by so many threads.
+#[tactic(auto, using(crate::proofs::Failing::begins_fails, crate::proofs::Stopping::finds_of))]
+pub(crate) fn search_by_threads<R: Threads + Sync, W: Watch>(
+    rt: &R,
+    alloc: Global,
+    threads: usize,
+    input: &[u8],
+    faults: u32,
+    most: u32,
+    watch: &W,
+) -> Result<LeastTable, SimFault>
+    requires { faults ≤ most }
+    ensures finds { IfOk result (FindsOf input.now faults) }
+    ensures fault { IfErr result (MergedFails most input.now) }
+{
+    match MergedRun::new(alloc, input) {
+        Ok(run) => search_from_by_threads(rt, alloc, threads, run, faults, watch),
+        Err(fault) => Err(fault),
+    }
+}
+
+// The same as `search_from`, by so many threads.
+#[tactic(auto, using(crate::proofs::Stopping::stopped))]
+fn search_from_by_threads<R: Threads + Sync, W: Watch>(
+    rt: &R,
+    alloc: Global,
+    threads: usize,
+    run: MergedRun,
+    faults: u32,
+    watch: &W,
+) -> Result<LeastTable, SimFault>
+    ensures finds { (input : List ℕ) → IsRunOf input run → IfOk result (Finds faults run) }
+    ensures fault { (input : List ℕ) → IsRunOf input run → IfErr result (MergedFails faults input) }
+{
+    let bounds = bounds_for(faults);
+    match least_runs_by_threads(rt, alloc, threads, run, bounds, &Watching { watch }) {
+        Ok(table) => Ok(table),
+        Err(stop) => Err(sim_fault(stop)),
     }
 }

@@ -1,6 +1,6 @@
 //! The search of mr_explore_noted by several threads.
 //!
-//! No program uses it yet.
+//! `mrsim explore --merge` makes its runs by it.
 //!
 //! # What is proved
 //!
@@ -11,7 +11,7 @@
 //!   workers (`AreGiven` of `specs/inner/Working`), and at the end their tables are joined (`joined_has_all` of mr_explore_noted).
 //! - `Full` is answered only where a run of the definition would pass a limit, whichever thread came to it (`Stops`).
 //!
-//! Neither proved nor tested yet: that threads find runs where there is memory, and how much sooner all is done.
+//! Only tested: that threads find runs where there is memory (tests_explore). Neither: how much sooner all is done.
 //!
 //! # Choices
 //!

@@ -1,5 +1,5 @@
 -- What a subcommand prints for its input, and which faults it answers: a case for each subcommand, whose words stand in its folder. Our own profile.
-use Rattle.std.specs.Prelude.{◌≡◌, ◌<◌, ◌≤◌, ◌^◌, Option, Some, ℕ, List, Err, false, length}
+use Rattle.std.specs.Prelude.{◌≡◌, ◌<◌, ◌≤◌, ◌^◌, Option, Some, ℕ, List, Err, false, length, true}
 use Rattle.std.specs.Io.KnownBytes.{Appends}
 use Rattle.mr_history.specs.Reading.{bad_line}
 use Rattle.mr_script.specs.Lines.{lines_of}
@@ -8,12 +8,13 @@ use Rattle.mr_sim_commands.specs.declared.fault.JobTextFault.{JobTextFault}
 use Rattle.mr_sim_commands.specs.declared.fault.SimFault.{SimFault}
 use Rattle.mr_sim_commands.specs.declared.fault.SimFault.TheVariants.{NoMemory, Read, Write, TooLong, BadCommand, BadRecord, Job, Refused, Full, JobFailed, TurnsSpent, JournalMismatch, Thread}
 use Rattle.mr_sim.specs.declared.subcommand.Command.{Command}
-use Rattle.mr_sim.specs.declared.subcommand.Command.TheVariants.{Committer, CommitterTrace, CommitterJson, Play, PlayShown, PlayDrawn, PlayJson, PlayTree, History, HistoryJson, Seq, Threads, ThreadsSeen, Explore}
+use Rattle.mr_sim.specs.declared.subcommand.Command.TheVariants.{Committer, CommitterTrace, CommitterJson, Play, PlayShown, PlayDrawn, PlayJson, PlayTree, History, HistoryJson, Seq, Threads, ThreadsSeen, Explore, ExploreMerged}
 use Rattle.mr_sim_commands.specs.committer.Script.{IsFirstBad}
 use Rattle.mr_sim_commands.specs.committer.Text.{PrintsCommitter}
 use Rattle.mr_sim_commands.specs.history.Text.{PrintsHistory}
 use Rattle.mr_sim_commands.specs.job.Text.{submission_of}
-use Rattle.mr_explore.specs.Explored.{IsFullExplored}
+use Rattle.mr_explore.specs.Explored.{IsFullExplored, goal_of}
+use Rattle.mr_explore_merged.specs.Merged.{IsFullMerged, sought}
 use Rattle.mr_trace_json.specs.Plays.{TellsPlay}
 use Rattle.mr_trace_json.specs.Segments.{TellsHistory}
 use Rattle.mr_trace.specs.mr_play.specs.Shown.{Draws}
@@ -25,7 +26,7 @@ use Rattle.mr_pipe.specs.declared.form.Form.TheVariants.{Text, Json}
 use Rattle.mr_threads.specs.Runs.{IsRead}
 use Rattle.mr_threads.specs.Text.{HasFailed, PrintsSuccess}
 use Rattle.mr_threads_shown.specs.Text.{ShowsRun}
-use Rattle.mr_sim.specs.Goals.{Names, PrintsSought}
+use Rattle.mr_sim.specs.Goals.{Names, PrintsMergedSought, PrintsSought}
 use Rattle.mr_sim.specs.Trees.{ListsPlay}
 
 -- ---- what is printed
@@ -46,6 +47,7 @@ Prints Seq input text = PrintsSeq input text
 Prints (Threads turns hold) input text = PrintsSuccess input text
 Prints (ThreadsSeen turns hold seen) input text = ShowsRun seen input text
 Prints (Explore asked progress jobs) input text = PrintsSought asked input text
+Prints (ExploreMerged asked progress jobs) input text = PrintsMergedSought asked input text
 
 -- ---- what is refused
 
@@ -64,7 +66,8 @@ IsBadLine HistoryJson input n = ⊥
 IsBadLine Seq input n = ⊥
 IsBadLine (Threads turns hold) input n = ⊥
 IsBadLine (ThreadsSeen turns hold seen) input n = ⊥
-IsBadLine (Explore asked progress jobs) input n = IsBadPlayLine input n
+IsBadLine (Explore asked progress jobs) input n = Names (goal_of asked) input true × IsBadPlayLine input n
+IsBadLine (ExploreMerged asked progress jobs) input n = Names (sought asked) input true × IsBadPlayLine input n
 
 -- the first whole line of a segment that is no record and not the version line at its head
 abbrev pub IsBadRecord : Command → List ℕ → ℕ → Type 0
@@ -82,6 +85,7 @@ IsBadRecord Seq input n = ⊥
 IsBadRecord (Threads turns hold) input n = ⊥
 IsBadRecord (ThreadsSeen turns hold seen) input n = ⊥
 IsBadRecord (Explore asked progress jobs) input n = ⊥
+IsBadRecord (ExploreMerged asked progress jobs) input n = ⊥
 
 -- what is wrong with a job text
 abbrev pub IsBadJob : Command → List ℕ → JobTextFault → Type 0
@@ -99,6 +103,7 @@ IsBadJob Seq input e = submission_of input ≡ Err e
 IsBadJob (Threads turns hold) input e = submission_of input ≡ Err e
 IsBadJob (ThreadsSeen turns hold seen) input e = submission_of input ≡ Err e
 IsBadJob (Explore asked progress jobs) input e = IsBadPlayJob input e
+IsBadJob (ExploreMerged asked progress jobs) input e = IsBadPlayJob input e
 
 -- the job of a job text refuses a line of a split; or it does not have a reduce that the goal names
 abbrev pub IsRefused : Command → List ℕ → Type 0
@@ -115,7 +120,8 @@ IsRefused HistoryJson input = ⊥
 IsRefused Seq input = RefusesSeq input
 IsRefused (Threads turns hold) input = ⊥
 IsRefused (ThreadsSeen turns hold seen) input = ⊥
-IsRefused (Explore asked progress jobs) input = Names asked input false
+IsRefused (Explore asked progress jobs) input = Names (goal_of asked) input false
+IsRefused (ExploreMerged asked progress jobs) input = Names (sought asked) input false
 
 -- an event of a run, or a work, passes a limit
 abbrev pub IsFull : Command → List ℕ → Type 0
@@ -132,7 +138,8 @@ IsFull HistoryJson input = ⊥
 IsFull Seq input = ⊥
 IsFull (Threads turns hold) input = IsRead input
 IsFull (ThreadsSeen turns hold seen) input = IsRead input
-IsFull (Explore asked progress jobs) input = IsFullExplored asked input
+IsFull (Explore asked progress jobs) input = Names (goal_of asked) input true × IsFullExplored asked input
+IsFull (ExploreMerged asked progress jobs) input = Names (sought asked) input true × IsFullMerged asked.faults input
 
 -- threads ran the job, and no success was told
 abbrev pub IsFailed : Command → List ℕ → Type 0
@@ -149,7 +156,8 @@ IsToRun _ input = ⊥
 abbrev pub MayMismatch : Command → List ℕ → Type 0
 MayMismatch (Threads turns hold) input = IsRead input
 MayMismatch (ThreadsSeen turns hold seen) input = IsRead input
-MayMismatch (Explore asked progress jobs) input = Unit {0}
+MayMismatch (Explore asked progress jobs) input = Names (goal_of asked) input true
+MayMismatch (ExploreMerged asked progress jobs) input = Names (sought asked) input true
 MayMismatch _ input = ⊥
 
 -- the text is formed or refused only of an input within the limit

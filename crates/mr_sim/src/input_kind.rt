@@ -31,7 +31,8 @@ impl InputKind {
             | Command::PlayDrawn(_)
             | Command::PlayJson
             | Command::PlayTree
-            | Command::Explore { .. } => InputKind::JobAndScript,
+            | Command::Explore { .. }
+            | Command::ExploreMerged { .. } => InputKind::JobAndScript,
         }
     }
 

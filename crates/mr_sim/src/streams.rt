@@ -2,10 +2,10 @@
 ghost use Rattle.std.specs.Prelude.{◌≡◌, ◌≢◌, true, IfOk, IfErr, IfSome, OnOk};
 ghost use Rattle.std.specs.Io.KnownBytes.{Appends, Keeps};
 ghost use Rattle.mr_sim.specs.Expected.{IsMet};
-ghost use Rattle.mr_sim.specs.Goals.{PrintsSought, SoughtFails};
+ghost use Rattle.mr_sim.specs.Goals.{MergedSoughtFails, PrintsMergedSought, PrintsSought, SoughtFails};
 ghost use Rattle.mr_sim.specs.Printed.{Prints, Refuses, RefusesText, Writes};
 
-use crate::goal::explored_by_threads;
+use crate::goal::{explored_by_threads, merged_with};
 use crate::host::Host;
 use crate::input::read_input;
 use crate::progress::OnStandardError;
@@ -13,6 +13,7 @@ use crate::refusal::Refusal;
 use crate::remarks::{Remarks, noted, noted_lines};
 use crate::subcommand::{Command, answer, printed};
 use mr_explore::Asked;
+use mr_explore_merged::Question;
 use mr_sim_commands::{Printed, SimFault};
 use mr_threads::threads_output;
 use mr_threads_shown::{Seen, threads_seen};
@@ -80,8 +81,8 @@ fn helped<H: AllocGlobal + Eprint + Clock + Threads + Wait + Sync>(
     }
 }
 
-// What is printed where there is a handle: threads make the runs of `explore`, and run the job of `threads`.
-#[tactic(auto, using(crate::proofs::Failing::explore_fails))]
+// What is printed where there is a handle: threads make the runs of `explore`, with `--merge` too, and run the job of `threads`.
+#[tactic(auto, using(crate::proofs::Failing::explore_fails, crate::proofs::Failing::merged_fails))]
 fn printed_by<H: AllocGlobal + Eprint + Clock + Threads + Wait + Sync>(
     rt: &H,
     command: &Command<'_>,
@@ -97,6 +98,11 @@ fn printed_by<H: AllocGlobal + Eprint + Clock + Threads + Wait + Sync>(
             progress,
             jobs,
         } => explored_with(rt, input, asked, *progress, *jobs),
+        Command::ExploreMerged {
+            asked,
+            progress,
+            jobs,
+        } => explored_merged(rt, input, asked, *progress, *jobs),
         _ => hosted(rt, command, input),
     }
 }
@@ -136,6 +142,25 @@ fn explored_with<H: AllocGlobal + Eprint + Clock + Threads + Sync>(
     let watch = OnStandardError::new(rt, progress);
     let threads = threads_of(rt, jobs);
     let printed = explored_by_threads(rt, rt.alloc(), threads, input, asked, &watch)?;
+    noted_lines(rt.alloc(), input, printed)
+}
+
+// What `explore --merge` prints, by as many threads, with the same notes.
+#[tactic(auto, using(crate::proofs::Sought::merged_played))]
+fn explored_merged<H: AllocGlobal + Eprint + Clock + Threads + Sync>(
+    rt: &H,
+    input: &[u8],
+    asked: &Question<'_>,
+    progress: bool,
+    jobs: Option<u32>,
+) -> Result<Printed, SimFault>
+    ensures ok { IfOk result (λ v. PrintsMergedSought asked.now input.now v.text.items) }
+    ensures met { IfOk result (λ v. v.met ≡ true) }
+    ensures fault { IfErr result (MergedSoughtFails asked.now input.now) }
+{
+    let watch = OnStandardError::new(rt, progress);
+    let threads = threads_of(rt, jobs);
+    let printed = merged_with(rt, rt.alloc(), threads, input, asked, &watch)?;
     noted_lines(rt.alloc(), input, printed)
 }
 

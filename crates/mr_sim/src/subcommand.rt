@@ -6,11 +6,12 @@ ghost use Rattle.mr_threads_shown.specs.Text.{ShowsRun};
 ghost use Rattle.mr_sim.specs.Expected.{IsMet};
 ghost use Rattle.mr_sim.specs.Printed.{Prints, RefusesText};
 
-use crate::goal::explored;
+use crate::goal::{explored, merged};
 use crate::host::Host;
 use crate::tree::play_tree;
 use mr_commit_trace::committer_trace;
 use mr_explore::Asked;
+use mr_explore_merged::Question;
 use mr_pipe::Form;
 use mr_sim_commands::{IdleKeys, Printed, SimFault, committer_output, history_output, seq_output};
 use mr_threads::unthreaded;
@@ -66,6 +67,13 @@ pub enum Command<'a> {
         progress: bool,
         jobs: Option<u32>,
     },
+    /// Tells each end of all runs of a job text and a script with at most as many faults as are asked for, with its least script. Runs that go on as an
+    /// earlier one does are left out, so it does not tell how many runs there are. `progress` and `jobs` are as of `Explore`.
+    ExploreMerged {
+        asked: Question<'a>,
+        progress: bool,
+        jobs: Option<u32>,
+    },
 }
 
 // A text that is printed of an input which has no job text: all is as expected, and nothing is noted.
@@ -77,7 +85,7 @@ fn plain(alloc: Global, text: Vec<u8>) -> Printed
 }
 
 /// What a subcommand prints for the bytes of its input, and what is noted beside it. This is the one place that tells the subcommands apart.
-#[tactic(auto, using(crate::proofs::Failing::committer_fails, crate::proofs::Failing::trace_fails, crate::proofs::Failing::trace_json_fails, crate::proofs::Failing::history_fails, crate::proofs::Failing::play_fails, crate::proofs::Failing::shown_fails, crate::proofs::Failing::drawn_fails, crate::proofs::Failing::json_fails, crate::proofs::Failing::tree_fails, crate::proofs::Failing::history_json_fails, crate::proofs::Failing::seq_fails, crate::proofs::Failing::threads_fails, crate::proofs::Failing::seen_fails, crate::proofs::Failing::explore_fails))]
+#[tactic(auto, using(crate::proofs::Failing::committer_fails, crate::proofs::Failing::trace_fails, crate::proofs::Failing::trace_json_fails, crate::proofs::Failing::history_fails, crate::proofs::Failing::play_fails, crate::proofs::Failing::shown_fails, crate::proofs::Failing::drawn_fails, crate::proofs::Failing::json_fails, crate::proofs::Failing::tree_fails, crate::proofs::Failing::history_json_fails, crate::proofs::Failing::seq_fails, crate::proofs::Failing::threads_fails, crate::proofs::Failing::seen_fails, crate::proofs::Failing::explore_fails, crate::proofs::Failing::merged_fails))]
 pub(crate) fn printed<T, S>(
     alloc: Global,
     host: &Host<T, S>,
@@ -123,13 +131,14 @@ where
         Command::Threads { turns, hold } => (host.threads)(turns, hold),
         Command::ThreadsSeen { turns, hold, seen } => (host.threads_seen)(turns, hold, seen),
         Command::Explore { asked, .. } => explored(alloc, input, &asked),
+        Command::ExploreMerged { asked, .. } => merged(alloc, input, &asked),
     }
 }
 
 /// What a subcommand prints for the bytes of its input. It has no stream and no handle, and returns for every input.
 ///
 /// `BadCommand`, `BadRecord`, `Job`, `Refused` and `Full` come only where the input has that fault; `NoMemory` may come at
-/// any input. Where a subcommand runs threads, there is no handle to make one: a job text that can be read is answered by `Thread`. The faults of streams, `Read`, `Write` and `TooLong`, never come: what is too long is for whoever reads.
+/// any input. Of `explore` a goal that no end can meet is told before a fault of the script or of a run. Where a subcommand runs threads, there is no handle to make one: a job text that can be read is answered by `Thread`. The faults of streams, `Read`, `Write` and `TooLong`, never come: what is too long is for whoever reads.
 pub fn answer(alloc: Global, command: Command<'_>, input: &[u8]) -> Result<Vec<u8>, SimFault>
     // Ok: the text is what is printed for the input.
     ensures ok { IfOk result (λ v. Prints command.entry input.now v.items) }

@@ -1,5 +1,5 @@
 //! The subcommand `explore`: every run of a job with few faults.
-use crate::names::{DEEP, FAULTS, FIND, JOBS, JSON, MOST, PROGRESS, SECONDS};
+use crate::names::{DEEP, FAULTS, FIND, JOBS, JSON, MERGE, MOST, PROGRESS, SECONDS};
 use crate::table::Word;
 use clap::builder::ValueParser;
 
@@ -29,6 +29,11 @@ who live only ask their masters, and hear nothing, or no), what `play` prints of
 those of `seq`, and of the scripts that lead to it with the fewest faults the first shortest one. Behind the job text it is an
 input of `play`: each script was played before it is shown.
 
+With --merge a run is left out that goes on as an earlier one does: of fewer faults, or of as many and with the script that
+comes first, which is the shorter one, or of two as long the lesser. Writes how many ends there are, `not of all runs` where one
+that was made would pass a limit, and each end with its least script, the least of them first: how many faults and events that
+has, and the rest as above. No runs are counted. A GOAL is sought by 0 faults, then by 1, up to N.
+
 Example, where one.job is a job text alone, and its line has an end:
   mrsim explore --find \"marker yes, outcome failed\" one.job > script
   cat one.job script | mrsim play --diagram > end.svg
@@ -43,6 +48,9 @@ const FAULTS_HELP: &str = "How many faults a run has at most, 0 to 4 (default 1)
 const FIND_HELP: &str =
     "Stops at the first end that has these lines, as \"marker yes, outcome failed\", and shows it; else `none`";
 
+const MERGE_HELP: &str =
+    "Makes runs that go on alike once, shows each end with its least script, and counts no runs";
+
 const MOST_HELP: &str = "Makes at most RUNS runs, and shows what came of them (default: all)";
 
 const JOBS_HELP: &str =
@@ -54,7 +62,7 @@ const SECONDS_HELP: &str =
 const PROGRESS_HELP: &str = "Says on standard error how many runs were made, every 100000 runs";
 
 const JSON_SHOWN: &str =
-    "Prints lines of JSON in place of the rest: each end, then how many runs were made";
+    "Prints lines of JSON in place of the rest: each end, then what is told of all runs";
 
 const WORDS: &[Word] = &[
     Word {
@@ -87,6 +95,12 @@ const WORDS: &[Word] = &[
     Word {
         name: JSON,
         help: JSON_SHOWN,
+        ..Word::FLAG
+    },
+    Word {
+        name: MERGE,
+        help: MERGE_HELP,
+        rules_out: &[DEEP, MOST, SECONDS],
         ..Word::FLAG
     },
     Word {

@@ -54,6 +54,9 @@ pub const JOBS: &str = "jobs";
 /// Lines of JSON are asked for.
 pub const JSON: &str = "json";
 
+/// `explore` leaves out runs that go on alike.
+pub const MERGE: &str = "merge";
+
 /// How many runs `explore` makes at most.
 pub const MOST: &str = "most";
 

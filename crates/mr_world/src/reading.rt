@@ -9,6 +9,7 @@ ghost use Rattle.mr_world_state.specs.Standing.{Standing};
 ghost use Rattle.mr_world.specs.Histories.{stable_bytes};
 ghost use Rattle.mr_world.specs.Readings.{due_in, phase_in, wanted_in, unflushed_in};
 
+use mr_history::History;
 use mr_ids::{AppAttempt, TaskId};
 use mr_master_model::{DutyName, Phase};
 use mr_names::Namespace;
@@ -81,10 +82,11 @@ pub fn stable(parts: &Parts, k: u32) -> &[u8]
     ensures stable { (w : World) → Standing parts.now w → k ≤ w.fence → records_of result.now ≡ (w.history k).stable }
     ensures none { (w : World) → Standing parts.now w → w.fence < k → result.now ≡ [] }
 {
+    let history: &History = &parts.history;
     // For the prover: the fence of a history is at most 1,000.
-    let _newest = parts.history.fence();
+    let _newest = history.fence();
     match AppAttempt::new(k) {
-        Some(app) if parts.history.is_raised(app) => parts.history.stable(app),
+        Some(app) if history.is_raised(app) => history.stable(app),
         _ => &[],
     }
 }

@@ -4,3 +4,4 @@ pub mod Order
 pub mod Letters
 pub mod Nodes
 pub mod Ending
+pub mod Sharing

@@ -12,8 +12,11 @@
 //! - `Living::copy` and `Nodes::copy` keep an equal machine of each container and each node, and of no other.
 //! - `Living::is_same` and `Nodes::is_same` are true exactly where both hold the same machine of each container or node,
 //!   and of no other.
-//! - Memory may be taken by `Living::insert`, `Living::hear`, `Living::all`, `Nodes::new`, `Nodes::put`, `Nodes::hear`
-//!   and the copies. No other call takes any.
+//! - `Shared` holds a value that several worlds have, until one of them changes it. Contracts see the value alone.
+//!   `Shared::share` gives the same value to one world more, and copies nothing. `Shared::own` lends the value to be
+//!   changed: who else has it keeps what was.
+//! - Memory may be taken by `Living::insert`, `Living::hear`, `Living::all`, `Nodes::new`, `Nodes::put`, `Nodes::hear`,
+//!   `Nodes::restart`, `Shared::new`, `Shared::own` and the copies. No other call takes any.
 //! - `Living::all` lists who lives, by generation, then number; `Living::next` is the next one after another, in cyclic order.
 //! - `Living::letters` tells the packet of a container's step, and whether it is its last. `Living::would_end` and
 //!   `Nodes::would_answer` tell beforehand what a packet would lead to, and change nothing.
@@ -22,7 +25,9 @@
 mod letters;
 mod living;
 mod nodes;
+mod shared;
 
 pub use letters::Letters;
 pub use living::Living;
 pub use nodes::Nodes;
+pub use shared::{Duplicate, Shared};

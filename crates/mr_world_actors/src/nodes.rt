@@ -3,8 +3,10 @@ ghost use Rattle.std.specs.Prelude.{◌≡◌, ◌↔◌, ℕ, None, Some, is_so
 ghost use Rattle.std.specs.Option.{option_copied};
 ghost use Rattle.mr_node.specs.Readings.{opening, reaction};
 ghost use Rattle.mr_node.specs.Past.{Hears, Restarts, Shelves};
+ghost use Rattle.mr_node.specs.State.{after};
 ghost use Rattle.mr_world_actors.specs.Nodes.{node_of, ChangesNode, SameNodes, node_stepped, reaction_of, added_by};
 
+use crate::shared::Shared;
 use mr_ids::AttemptId;
 use mr_mapside::MapOutput;
 use mr_node::{NodeMachine, Reaction};
@@ -14,7 +16,7 @@ use std::alloc::{AllocError, Global};
 /// The machines of all nodes, by number from 0.
 #[derive(Drop)]
 pub struct Nodes {
-    machines: Vec<NodeMachine>,
+    machines: Vec<Shared<NodeMachine>>,
 }
 
 impl Nodes {
@@ -25,19 +27,20 @@ impl Nodes {
     {
         let mut machines = Vec::new(alloc);
         for n in 0..count {
-            machines.push(NodeMachine::new(alloc, n, reduces))?;
+            let machine = begun(alloc, n, reduces)?;
+            machines.push(machine)?;
         }
         Ok(Nodes { machines })
     }
 
-    /// Equal machines of the same nodes. Its only fault is an allocation failure.
+    /// Equal machines of the same nodes: those of these, until they change. Its only fault is an allocation failure.
     #[tactic(auto, unfolding(crate::specs::Nodes::node_of))]
     pub fn copy(&self) -> Result<Nodes, AllocError>
         ensures { IfOk result (SameNodes self.now) }
     {
         let mut machines = Vec::with_capacity(*self.machines.allocator(), self.machines.len())?;
         for machine in &self.machines {
-            machines.push(machine.copy()?)?;
+            machines.push(machine.share()?)?;
         }
         Ok(Nodes { machines })
     }
@@ -54,7 +57,8 @@ impl Nodes {
     pub fn get(&self, n: u32) -> Option<&NodeMachine>
         ensures { option_copied result ≡ node_of self.now n }
     {
-        self.machines.get(n as usize)
+        let machine = self.machines.get(n as usize)?;
+        Some(&**machine)
     }
 
     /// The output of a map attempt is put on a node's shelf. Where memory is refused nothing changes.
@@ -64,7 +68,7 @@ impl Nodes {
         ensures err { OnErr result (SameNodes self.old self.new) }
     {
         match self.machines.get_mut(n as usize) {
-            Some(machine) => machine.put(a, output),
+            Some(machine) => put(machine, a, output),
             None => Ok(()),
         }
     }
@@ -77,7 +81,7 @@ impl Nodes {
         ensures err { OnErr result (SameNodes self.old self.new) }
     {
         match self.machines.get_mut(n as usize) {
-            Some(machine) => machine.hear(packet),
+            Some(machine) => hear(machine, packet),
             None => Ok(Reaction::Nothing),
         }
     }
@@ -94,27 +98,71 @@ impl Nodes {
     }
 
     /// A node, if there is one of this number, begins anew: in the next incarnation, of which there is one, and with an empty shelf.
+    /// Where memory is refused nothing changes.
     #[tactic(auto, unfolding(crate::specs::Nodes::node_of))]
-    pub fn restart(&mut self, n: u32)
+    pub fn restart(&mut self, n: u32) -> Result<(), AllocError>
         requires { IfSome (node_of self.old n) (λ m. m.seen.incarnation < 2 ^ 32 - 1) }
-        ensures { ChangesNode self.old n (node_stepped self.old n Restarts) self.new }
+        ensures ok { OnOk result (ChangesNode self.old n (node_stepped self.old n Restarts) self.new) }
+        ensures err { OnErr result (SameNodes self.old self.new) }
     {
-        if let Some(machine) = self.machines.get_mut(n as usize) {
-            machine.restart();
+        match self.machines.get_mut(n as usize) {
+            Some(machine) => restart(machine),
+            None => Ok(()),
         }
     }
 }
 
+// A node that begins.
+fn begun(alloc: Global, number: u32, reduces: u32) -> Result<Shared<NodeMachine>, AllocError>
+    ensures { IfOk result (λ machine. machine ≡ record { number = number; seen = opening reduces }) }
+{
+    Shared::new(alloc, NodeMachine::new(alloc, number, reduces))
+}
+
+// The output of a map attempt is put on the node's shelf. Where memory is refused nothing changes.
+fn put(machine: &mut Shared<NodeMachine>, a: AttemptId, output: MapOutput) -> Result<(), AllocError>
+    ensures after { OnOk result (machine.new ≡ after machine.old (Shelves a output)) }
+    ensures err { OnErr result (machine.new ≡ machine.old) }
+{
+    machine.own()?.put(a, output)
+}
+
+// The node hears a packet: what it makes the node do. Where memory is refused nothing changes.
+fn hear(machine: &mut Shared<NodeMachine>, packet: &Packet) -> Result<Reaction, AllocError>
+    ensures reaction { IfOk result (λ r. r ≡ reaction machine.old.number machine.old.seen packet.now) }
+    ensures after { OnOk result (machine.new ≡ after machine.old (Hears packet.now)) }
+    ensures err { OnErr result (machine.new ≡ machine.old) }
+{
+    machine.own()?.hear(packet)
+}
+
+// The node begins anew, in its next incarnation. Where memory is refused nothing changes.
+fn restart(machine: &mut Shared<NodeMachine>) -> Result<(), AllocError>
+    requires { machine.old.seen.incarnation < 2 ^ 32 - 1 }
+    ensures after { OnOk result (machine.new ≡ after machine.old Restarts) }
+    ensures err { OnErr result (machine.new ≡ machine.old) }
+{
+    machine.own()?.restart();
+    Ok(())
+}
+
+// Whether two machines are the same.
+fn is_one(this: &Shared<NodeMachine>, that: &Shared<NodeMachine>) -> bool
+    ensures { IsTrue result ↔ (this.now ≡ that.now) }
+{
+    this.is_same(that)
+}
+
 // Whether two lists of machines are the same.
 #[tactic(auto, using(crate::proofs::Comparing::one_more, crate::proofs::Comparing::one_differs))]
-fn are_same(these: &[NodeMachine], those: &[NodeMachine]) -> bool
+fn are_same(these: &[Shared<NodeMachine>], those: &[Shared<NodeMachine>]) -> bool
     ensures { IsTrue result ↔ (these.now ≡ those.now) }
 {
     if these.len() != those.len() {
         return false;
     }
     for i in 0..these.len() {
-        if !these[i].is_same(&those[i]) {
+        if !is_one(&these[i], &those[i]) {
             return false;
         }
     }

@@ -1,5 +1,5 @@
 -- What a comparison of two worlds' parts finds.
-use Rattle.std.proofs.Common.{◌≡◌, ◌∙◌, ◌↔◌, ℕ, Bool, true, false, IfOk, IsTrue, List, Result, nat_eq, not, refl, sym, ap, rules}
+use Rattle.std.proofs.Common.{◌≡◌, ◌∙◌, ◌↔◌, ℕ, Bool, true, false, IfOk, IsTrue, List, Result, nat_eq, refl, sym, ap, rules}
 use Rattle.std.proofs.lemmas.Bool.{true≢false}
 use Rattle.std.proofs.lemmas.Result.{IfOk-weaker}
 use Rattle.std.proofs.lemmas.Slice.Eq.{slice_eq-Decides}
@@ -66,15 +66,8 @@ module _ (p q : Parts) where
   pub other_history : (b : Bool) → b ≡ false → (IsTrue b ↔ (p.history ≡ q.history)) → IsTrue false ↔ SameStores p q
   other_history b fails history = (λ t. absurd (true≢false (sym t)), λ all. sym fails ∙ history.1 all.history)
 
-  pub other_config : (b e : Bool) → b ≡ true → b ≡ not e → Decides e (p.config ≡ q.config) → IsTrue false ↔ SameStores p q
-  other_config b e holds is config = (λ t. absurd (true≢false (sym t)), λ all. absurd (true≢false (sym holds ∙ (is ∙ ap not (config.1 all.config)))))
-
-  pub one_config : (b e : Bool) → b ≡ false → b ≡ not e → Decides e (p.config ≡ q.config) → p.config ≡ q.config
-  one_config b e fails is config = config.0 (by e (sym is ∙ fails))
-    where
-      by : (d : Bool) → not d ≡ false → d ≡ true
-      by true x = refl
-      by false x = sym x
+  pub other_config : (b : Bool) → b ≡ false → (IsTrue b ↔ (p.config ≡ q.config)) → IsTrue false ↔ SameStores p q
+  other_config b fails config = (λ t. absurd (true≢false (sym t)), λ all. sym fails ∙ config.1 all.config)
 
   -- the names are left
   pub with_names : {E : Type 0} (r : Result Bool E) → p.history ≡ q.history → p.config ≡ q.config → IfOk r (λ same. IsTrue same ↔ (p.names ≡ q.names)) → IfOk r (λ same. IsTrue same ↔ SameStores p q)

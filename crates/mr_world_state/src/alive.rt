@@ -1,6 +1,6 @@
 //! Whether the master of a generation is alive: asked before it crashes or makes a store call, and for its unflushed
 //! bytes.
-ghost use Rattle.std.specs.Prelude.{◌≡◌, ◌≤◌, true, false, is_some, IfOk, OnOk, IfErr};
+ghost use Rattle.std.specs.Prelude.{◌≡◌, ◌≤◌, nat_le, true, false, is_some, IfOk, OnOk, IfErr};
 ghost use Rattle.mr_world_events.specs.declared.why.Why.TheVariants.{NoMaster};
 ghost use Rattle.mr_world_model.specs.World.{World};
 ghost use Rattle.mr_world_state.specs.declared.fault.WorldFault.TheVariants.{NotNow};
@@ -12,6 +12,7 @@ use crate::fault::WorldFault;
 use crate::parts::Parts;
 use mr_history::History;
 use mr_ids::AppAttempt;
+use mr_world_actors::Shared;
 use mr_world_events::Why;
 
 impl Parts {
@@ -31,13 +32,20 @@ impl Parts {
 }
 
 /// The generation, if a master of it was started. Else refuses `NoMaster`.
-pub fn raised(history: &History, k: u32) -> Result<AppAttempt, WorldFault>
+pub fn raised(history: &Shared<History>, k: u32) -> Result<AppAttempt, WorldFault>
     ensures is { IfOk result (λ app. app ≡ k) }
     ensures raised { OnOk result (k ≤ history.now.fence) }
     ensures refused { IfErr result (λ fault. (fault ≡ WorldFault.NotNow Why.NoMaster) × ((p : Parts) → p.history ≡ history.now → (w : World) → Standing p w → w.is_master k ≡ false)) }
 {
     match AppAttempt::new(k) {
-        Some(app) if history.is_raised(app) => Ok(app),
+        Some(app) if is_raised(history, app) => Ok(app),
         _ => Err(WorldFault::NotNow(Why::NoMaster)),
     }
+}
+
+// Whether the stores heard of a master of this generation.
+fn is_raised(history: &Shared<History>, app: AppAttempt) -> bool
+    ensures { result ≡ nat_le app history.now.fence }
+{
+    history.is_raised(app)
 }

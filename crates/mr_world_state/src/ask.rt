@@ -7,6 +7,7 @@ use mr_history::History;
 use mr_ids::AppAttempt;
 use mr_master_model::StoreCall;
 use mr_names::Namespace;
+use mr_world_actors::Shared;
 use mr_world_events::Weather;
 use mr_world_stores::{append_record, change_names, is_made};
 use std::alloc::AllocError;
@@ -14,8 +15,8 @@ use std::alloc::AllocError;
 /// A master's store call is made, if it is in this weather: the stores are left as it leaves them, refused or not.
 /// Where memory is refused nothing has changed.
 pub fn ask(
-    names: &mut Namespace,
-    history: &mut History,
+    names: &mut Shared<Namespace>,
+    history: &mut Shared<History>,
     app: AppAttempt,
     call: &StoreCall,
     weather: Weather,
@@ -30,10 +31,10 @@ pub fn ask(
         return Ok(());
     }
     match call {
-        StoreCall::Names(op) => change_names(names, app, op),
-        StoreCall::Append(line) => append_record(history, app, line),
+        StoreCall::Names(op) => change_names(names.own()?, app, op),
+        StoreCall::Append(line) => append_record(history.own()?, app, line),
         StoreCall::Flush => {
-            let _refusal = history.flush(app);
+            let _refusal = history.own()?.flush(app);
             Ok(())
         }
         StoreCall::Read => Ok(()),

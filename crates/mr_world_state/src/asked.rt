@@ -14,6 +14,7 @@ use mr_ids::AppAttempt;
 use mr_master_model::{StoreAnswer, StoreCall};
 use mr_names::{Caller, Namespace, Op};
 use mr_packet::ContainerId;
+use mr_world_actors::Shared;
 use mr_world_events::{Event, Weather};
 use mr_world_stores::{ContainerCall, names_answer};
 use std::alloc::AllocError;
@@ -82,7 +83,11 @@ impl Parts {
 }
 
 // A container's call, with what it hears in this weather.
-fn heard(names: &Namespace, call: ContainerCall, weather: Weather) -> Result<Asked, AllocError>
+fn heard(
+    names: &Shared<Namespace>,
+    call: ContainerCall,
+    weather: Weather,
+) -> Result<Asked, AllocError>
     ensures { IfOk result (λ asked. asked ≡ Asked.Container call.caller call.op (heard_in weather (answer_of names.now call).0)) }
 {
     let reply = match weather {

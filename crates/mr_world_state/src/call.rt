@@ -1,14 +1,18 @@
 //! The store call of a container's step: whether it can be made now, and what the container hears of it.
-ghost use Rattle.std.specs.Prelude.{◌≡◌, OnOk, OnErr, is_some, true};
+ghost use Rattle.std.specs.Prelude.{◌≡◌, IfOk, OnOk, OnErr, is_some, true};
 ghost use Rattle.mr_world_model.specs.Effect.{is_calm};
+ghost use Rattle.mr_world_model.specs.Stored.{left_in, heard_in};
 ghost use Rattle.mr_world_actors.specs.Living.{kept};
+ghost use Rattle.mr_world_stores.specs.Calls.{answer_of};
 ghost use Rattle.mr_world_state.specs.inner.Calling.{is_call, step_fault, permitted, ForeseesCall, HasCalled};
 
 use crate::fault::WorldFault;
 use crate::parts::Parts;
 use crate::room::tell_most;
-use mr_container::Wish;
+use mr_container::{Reply, Wish};
+use mr_names::Namespace;
 use mr_packet::ContainerId;
+use mr_world_actors::Shared;
 use mr_world_events::{Weather, Why};
 use mr_world_stores::{ContainerCall, answer_container, would_be_full};
 use std::alloc::AllocError;
@@ -58,10 +62,25 @@ impl Parts {
         ensures ok { OnOk result (HasCalled self.old c.now weather call.now self.new) }
         ensures err { OnErr result (self.new ≡ self.old) }
     {
-        let reply = answer_container(&mut self.names, call, weather)?;
+        let reply = answer(&mut self.names, call, weather)?;
         self.living.on(c, reply);
         Ok(())
     }
+}
+
+// What the container hears of its call. The call is made in the namespace, if it is made in this weather. Where memory
+// is refused nothing has changed.
+fn answer(
+    names: &mut Shared<Namespace>,
+    call: &ContainerCall,
+    weather: Weather,
+) -> Result<Reply, AllocError>
+    ensures heard { IfOk result (λ reply. reply ≡ heard_in weather (answer_of names.old call.now).0) }
+    ensures left { OnOk result (names.new ≡ left_in weather names.old (answer_of names.old call.now).1) }
+    ensures err { OnErr result (names.new ≡ names.old) }
+{
+    let names = names.own()?;
+    answer_container(names, call, weather)
 }
 
 fn check_step(wish: &Wish, weather: Weather) -> Result<(), WorldFault>

@@ -35,7 +35,7 @@ impl Parts {
             return Err(WorldFault::NotNow(Why::WrongWish));
         }
         let place = machine.place();
-        check_bytes(place.attempt.task().kind, self.config.reduce_count(), bytes)?;
+        check_bytes(place.attempt.task().kind, self.reduce_count(), bytes)?;
         Ok(place)
     }
 

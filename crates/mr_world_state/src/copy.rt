@@ -11,14 +11,14 @@ use crate::parts::Parts;
 use mr_history::History;
 use mr_names::Namespace;
 use mr_packet::Bag;
-use mr_world_actors::{Living, Nodes};
+use mr_world_actors::{Living, Nodes, Shared};
 use std::alloc::AllocError;
 
 // The stores and the bag.
 #[derive(Drop)]
 struct Stores {
-    names: Namespace,
-    history: History,
+    names: Shared<Namespace>,
+    history: Shared<History>,
     bag: Bag,
 }
 
@@ -37,8 +37,8 @@ impl Parts {
         ensures history { IfOk result (λ parts. parts.history ≡ self.now.history) }
         ensures stands { IfOk result (λ parts. (w : World) → Standing self.now w → Standing parts w) }
     {
-        let config = self.config.copy()?;
-        let layout = self.layout.copy()?;
+        let config = self.config.share()?;
+        let layout = self.layout.share()?;
         let stores = self.copy_stores()?;
         let machines = self.copy_machines()?;
         Ok(Parts {
@@ -60,8 +60,8 @@ impl Parts {
         ensures bag { IfOk result (λ stores. stores.bag.packets ≡ self.now.bag.packets) }
     {
         Ok(Stores {
-            names: self.names.copy()?,
-            history: self.history.copy()?,
+            names: self.names.share()?,
+            history: self.history.share()?,
             bag: self.bag.copy()?,
         })
     }

@@ -8,8 +8,10 @@ ghost use Rattle.std.specs.Prelude.{◌≡◌, ◌≤◌, true, is_some, IfOk, O
 
 use crate::fault::WorldFault;
 use crate::parts::Parts;
+use mr_history::History;
 use mr_ids::AppAttempt;
-use mr_world_events::Why;
+use mr_world_actors::Shared;
+use std::alloc::AllocError;
 
 impl Parts {
     /// Whether the master of this generation can crash now.
@@ -32,8 +34,18 @@ impl Parts {
         ensures kept { OnErr result (self.new.history ≡ self.old.history) }
     {
         let app = self.check_crash(k, kept)?;
+        seal(&mut self.history, app, kept as usize)?;
         self.masters.cease(k);
-        self.history.seal(app, kept as usize);
         Ok(())
     }
+}
+
+// The segment of this generation is sealed. Where memory is refused the history is as it was.
+fn seal(history: &mut Shared<History>, app: AppAttempt, kept: usize) -> Result<(), AllocError>
+    requires { app ≤ history.old.fence }
+    ensures ok { OnOk result (history.new ≡ sealed_at app kept history.old) }
+    ensures err { OnErr result (history.new ≡ history.old) }
+{
+    history.own()?.seal(app, kept);
+    Ok(())
 }

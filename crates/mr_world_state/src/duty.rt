@@ -17,6 +17,7 @@ use mr_ids::AppAttempt;
 use mr_master::{Duty as StoreDuty, MasterMachine};
 use mr_master_model::StoreAnswer;
 use mr_names::Namespace;
+use mr_world_actors::Shared;
 use mr_world_events::{Weather, Why};
 
 /// A master's duty that is due, and what the master will be told of its store call.
@@ -86,8 +87,8 @@ impl Parts {
 
 // The duty of the master with this machine and this generation, if it has one, and no store is full.
 fn find_duty(
-    names: &Namespace,
-    history: &History,
+    names: &Shared<Namespace>,
+    history: &Shared<History>,
     machine: &MasterMachine,
     app: AppAttempt,
     weather: Weather,

@@ -10,14 +10,15 @@ use mr_history::History;
 use mr_ids::AppAttempt;
 use mr_master_model::{StoreAnswer, StoreCall};
 use mr_names::Namespace;
+use mr_world_actors::Shared;
 use mr_world_events::Weather;
 use mr_world_stores::{finds_full, is_made, master_answer, tell_ranges};
 
 /// What a master will be told of its store call in this weather. Refused `Full` where the call is made and finds a store
 /// full.
 pub fn foretell(
-    names: &Namespace,
-    history: &History,
+    names: &Shared<Namespace>,
+    history: &Shared<History>,
     app: AppAttempt,
     call: &StoreCall,
     weather: Weather,

@@ -49,8 +49,8 @@ impl Parts {
     {
         self.check_hear_node(i, n)?;
         reserve(&mut self.bag, 1)?;
-        let maps = self.config.maps();
-        let alloc = self.layout.dest.allocator();
+        let maps = self.maps();
+        let alloc = self.allocator();
         let answer = hear(
             alloc,
             &self.bag,

@@ -17,7 +17,7 @@ use mr_ids::AppAttempt;
 use mr_names::{Caller, Namespace};
 use mr_packet::Bag;
 use mr_paths::{Layout, Name, Path};
-use mr_world_actors::{Living, Nodes};
+use mr_world_actors::{Living, Nodes, Shared};
 use std::alloc::{AllocError, Global};
 
 impl Parts {
@@ -27,13 +27,14 @@ impl Parts {
         ensures history { IfOk result (λ parts. parts.history ≡ opening_history) }
         ensures opens { IfOk result (λ parts. Standing parts opening_world) }
     {
-        let dest = destination(alloc)?;
-        let names = open_names(alloc)?;
-        let history = open_history(alloc)?;
+        let layout = open_layout(alloc)?;
+        let names = share_names(alloc)?;
+        let history = share_history(alloc)?;
         let nodes = Nodes::new(alloc, config.nodes, config.reduces)?;
+        let shared = share_config(alloc, config)?;
         Ok(Parts {
-            config,
-            layout: Layout { dest },
+            config: shared,
+            layout,
             names,
             history,
             bag: Bag::new(alloc),
@@ -43,6 +44,34 @@ impl Parts {
             launched: 0,
         })
     }
+}
+
+// The paths of the job's committer.
+fn open_layout(alloc: Global) -> Result<Shared<Layout>, AllocError>
+    ensures { IfOk result (λ layout. layout.dest ≡ dest) }
+{
+    let dest = destination(alloc)?;
+    Shared::new(alloc, Layout { dest })
+}
+
+fn share_names(alloc: Global) -> Result<Shared<Namespace>, AllocError>
+    ensures { IfOk result (λ opened. opened ≡ (names.call_of names.opening (master 1) (op.Mkdirs staged)).1) }
+{
+    let names = open_names(alloc)?;
+    Shared::new(alloc, names)
+}
+
+fn share_history(alloc: Global) -> Result<Shared<History>, AllocError>
+    ensures { IfOk result (λ history. history ≡ opening_history) }
+{
+    let history = open_history(alloc)?;
+    Shared::new(alloc, history)
+}
+
+fn share_config(alloc: Global, config: Config) -> Result<Shared<Config>, AllocError>
+    ensures { IfOk result (λ shared. shared ≡ config) }
+{
+    Shared::new(alloc, config)
 }
 
 // Where the job's output goes.

@@ -1,6 +1,7 @@
 //! All that a world stores: both stores, the bag, and the machines of masters, containers and nodes. Most other files
 //! give it the calls of one kind of event.
 ghost use Rattle.std.specs.Prelude.{◌≡◌, ◌<◌, ◌≤◌, ◌+◌, length, OnOk, IfErr};
+ghost use Rattle.mr_names.specs.Calls.{IsSound};
 ghost use Rattle.mr_world_state.specs.declared.fault.WorldFault.TheVariants.{Full};
 
 use crate::config::Config;
@@ -11,18 +12,19 @@ use mr_history::History;
 use mr_names::Namespace;
 use mr_packet::{Bag, MAX_PACKETS};
 use mr_paths::Layout;
-use mr_world_actors::{Living, Nodes};
+use mr_world_actors::{Living, Nodes, Shared};
+use std::alloc::Global;
 
 /// What a world stores. Of containers that are over nothing is kept, and of old masters an empty place for each.
 pub struct Parts {
     /// What the world was made for.
-    pub config: Config,
+    pub config: Shared<Config>,
     /// The paths of the job's committer, at the destination.
-    pub layout: Layout,
+    pub layout: Shared<Layout>,
     /// The namespace, in which the job's output lies.
-    pub names: Namespace,
+    pub names: Shared<Namespace>,
     /// The job history, in bytes.
-    pub history: History,
+    pub history: Shared<History>,
     /// All packets that were ever sent.
     pub bag: Bag,
     /// The machines of the masters that are alive.
@@ -60,5 +62,32 @@ impl Parts {
         ensures full { IfErr result (λ fault. (fault ≡ WorldFault.Full) × (MAX_PACKETS < length self.now.bag.packets + more)) }
     {
         check_room(&self.bag, more)
+    }
+
+    /// How many masters were started.
+    pub(crate) fn fence(&self) -> u32
+        ensures value { result ≡ self.now.names.fence }
+        ensures sound { IsSound self.now.names }
+    {
+        self.names.fence()
+    }
+
+    /// How many reduces the job has.
+    pub(crate) fn reduce_count(&self) -> u32
+        ensures { result ≡ self.now.config.reduces }
+    {
+        self.config.reduce_count()
+    }
+
+    /// How many maps the job has.
+    pub(crate) fn maps(&self) -> u32
+        ensures { result ≡ length self.now.config.splits }
+    {
+        self.config.maps()
+    }
+
+    /// What a world takes memory from.
+    pub(crate) fn allocator(&self) -> Global {
+        self.layout.dest.allocator()
     }
 }

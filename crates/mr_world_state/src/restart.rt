@@ -42,9 +42,9 @@ impl Parts {
         if incarnation == u32::MAX {
             return Err(WorldFault::Full);
         }
-        let newest = self.names.fence();
+        let newest = self.fence();
         self.check_room(self.masters.count_alive(newest))?;
-        let alloc = self.layout.dest.allocator();
+        let alloc = self.allocator();
         let packets = self
             .masters
             .told_of_node(alloc, newest, n, incarnation + 1)?;
@@ -60,7 +60,7 @@ impl Parts {
     {
         let packets = self.restart_packets(n)?;
         reserve(&mut self.bag, packets.len())?;
-        self.nodes.restart(n);
+        self.nodes.restart(n)?;
         self.living.end_on(n);
         push_all(&mut self.bag, packets);
         Ok(())

@@ -1,9 +1,13 @@
 //! Whether the parts of two worlds hold the same.
-ghost use Rattle.std.specs.Prelude.{◌↔◌, IsTrue, IfOk};
+ghost use Rattle.std.specs.Prelude.{◌≡◌, ◌↔◌, IsTrue, IfOk};
 ghost use Rattle.mr_world_state.specs.Same.{SameParts};
 ghost use Rattle.mr_world_state.specs.inner.Compared.{SameMachinesIn, SameStores};
 
+use crate::config::Config;
 use crate::parts::Parts;
+use mr_history::History;
+use mr_names::Namespace;
+use mr_world_actors::Shared;
 use std::alloc::AllocError;
 
 impl Parts {
@@ -32,12 +36,31 @@ impl Parts {
     fn has_same_stores(&self, other: &Parts) -> Result<bool, AllocError>
         ensures { IfOk result (λ same. IsTrue same ↔ SameStores self.now other.now) }
     {
-        if !self.history.is_same(&other.history) {
+        if !is_same_history(&self.history, &other.history) {
             return Ok(false);
         }
-        if self.config != other.config {
+        if !is_same_config(&self.config, &other.config) {
             return Ok(false);
         }
-        self.names.is_same(&other.names)
+        is_same_names(&self.names, &other.names)
     }
+}
+
+fn is_same_history(one: &Shared<History>, other: &Shared<History>) -> bool
+    ensures { IsTrue result ↔ (one.now ≡ other.now) }
+{
+    one.is_same(other)
+}
+
+#[tactic(auto, using(crate::proofs::Same_parts::same_config))]
+fn is_same_config(one: &Shared<Config>, other: &Shared<Config>) -> bool
+    ensures { IsTrue result ↔ (one.now ≡ other.now) }
+{
+    **one == **other
+}
+
+fn is_same_names(one: &Shared<Namespace>, other: &Shared<Namespace>) -> Result<bool, AllocError>
+    ensures { IfOk result (λ same. IsTrue same ↔ (one.now ≡ other.now)) }
+{
+    one.is_same(other)
 }

@@ -13,6 +13,7 @@ use mr_ids::AppAttempt;
 use mr_master::MasterMachine;
 use mr_master_model::Setting;
 use mr_paths::Layout;
+use mr_world_actors::Shared;
 use mr_world_events::Why;
 use std::alloc::AllocError;
 
@@ -22,7 +23,7 @@ impl Parts {
         ensures foresees { Foresees self.now (Start k kept) result }
         ensures is { IfOk result (λ app. app ≡ k) }
     {
-        if k != self.names.fence() + 1 {
+        if k != self.fence() + 1 {
             return Err(WorldFault::NotNow(Why::WrongGeneration));
         }
         let Some(app) = AppAttempt::new(k) else {
@@ -40,18 +41,24 @@ impl Parts {
     {
         let app = self.check_start(k, kept)?;
         let setting = setting(&self.config, &self.layout, app)?;
-        let machine = MasterMachine::new(self.layout.dest.allocator(), setting)?;
+        let machine = MasterMachine::new(self.allocator(), setting)?;
+        let names = self.names.own()?;
+        let history = self.history.own()?;
         self.masters.begin(machine)?;
-        self.names.raise(app);
-        self.history
-            .raise(app, kept as usize, version(&self.config, app));
+        names.raise(app);
+        history.raise(app, kept as usize, version(&self.config, app));
         Ok(())
     }
 }
 
-fn setting(config: &Config, layout: &Layout, app: AppAttempt) -> Result<Setting, AllocError>
+fn setting(
+    config: &Shared<Config>,
+    layout: &Shared<Layout>,
+    app: AppAttempt,
+) -> Result<Setting, AllocError>
     ensures { IfOk result (λ made. made ≡ record (setting config.now app) { layout = layout.now }) }
 {
+    let config: &Config = config;
     Ok(Setting {
         app,
         job: config.job,
@@ -65,8 +72,9 @@ fn setting(config: &Config, layout: &Layout, app: AppAttempt) -> Result<Setting,
     })
 }
 
-fn version(config: &Config, app: AppAttempt) -> u32
+fn version(config: &Shared<Config>, app: AppAttempt) -> u32
     ensures { result ≡ version_of config.now app }
 {
+    let config: &Config = config;
     if app.number() >= config.v2_from { 2 } else { 1 }
 }

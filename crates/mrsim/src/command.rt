@@ -4,10 +4,10 @@ ghost use Rattle.clap.specs.Words.{kind_of};
 
 use clap::error::ErrorKind;
 use clap::{ArgMatches, Error};
-use mr_sim::{Asked, Ending, Expectation, Form, Part, Seen, Shown, SimFault};
+use mr_sim::{Asked, Ending, Expectation, Form, Part, Question, Seen, Shown, SimFault};
 use mr_sim_arguments::{
-    DEEP, DIAGRAM, FAULTS, FILE, FIND, FOLD, FROM, HISTORY_NAME, HOLD, JOBS, JSON, MOST, PROGRESS,
-    ROWS, SCRIPT, SECONDS, TRACE, TREE, TURNS,
+    DEEP, DIAGRAM, FAULTS, FILE, FIND, FOLD, FROM, HISTORY_NAME, HOLD, JOBS, JSON, MERGE, MOST,
+    PROGRESS, ROWS, SCRIPT, SECONDS, TRACE, TREE, TURNS,
 };
 
 /// The subcommand that the words name. Words without one are refused before.
@@ -108,18 +108,36 @@ fn play_of<'a>(words: &ArgMatches<'_>) -> mr_sim::Command<'a> {
 
 // What `explore` is asked for, and the end that is sought.
 fn explore_of<'a>(words: &ArgMatches<'_>, goal: Option<&'a [Expectation]>) -> mr_sim::Command<'a> {
+    let (progress, jobs) = (words.get_flag(PROGRESS), words.get_one::<u32>(JOBS));
+    if words.get_flag(MERGE) {
+        let asked = Question {
+            faults: faults_of(words),
+            goal,
+            form: form_of(words),
+        };
+        return mr_sim::Command::ExploreMerged {
+            asked,
+            progress,
+            jobs,
+        };
+    }
     mr_sim::Command::Explore {
         asked: Asked {
-            faults: words.get_one::<u32>(FAULTS).unwrap_or(1),
+            faults: faults_of(words),
             most: words.get_one::<u64>(MOST).unwrap_or(u64::MAX),
             seconds: words.get_one::<u64>(SECONDS),
             deep: words.get_one::<u64>(DEEP),
             goal,
             form: form_of(words),
         },
-        progress: words.get_flag(PROGRESS),
-        jobs: words.get_one::<u32>(JOBS),
+        progress,
+        jobs,
     }
+}
+
+// How many faults a run has at most.
+fn faults_of(words: &ArgMatches<'_>) -> u32 {
+    words.get_one::<u32>(FAULTS).unwrap_or(1)
 }
 
 fn form_of(words: &ArgMatches<'_>) -> Form {

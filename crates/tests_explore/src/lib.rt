@@ -1,4 +1,4 @@
-//! Tests of walks and searches over runs, of runs that are compared or noted, and of the least scripts to their ends.
+//! Tests of walks and searches over runs, by threads too, of runs that are compared or noted, and of the least scripts to their ends.
 #![tactic(auto)]
 
 mod counting;
@@ -7,6 +7,8 @@ mod least;
 #[cfg(test)]
 mod likeness;
 #[cfg(test)]
+mod merged;
+#[cfg(test)]
 mod noted;
 #[cfg(test)]
 mod places;
@@ -14,3 +16,5 @@ mod places;
 mod runs;
 mod trial;
 mod trip;
+#[cfg(test)]
+mod workers;

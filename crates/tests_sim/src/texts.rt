@@ -1,6 +1,6 @@
 //! What is answered from bytes alone, and texts that no run of the program prints.
 use mr_ids::JobId;
-use mr_sim::{Asked, Command, Expectation, Form, JobTextFault, Seen, SimFault, answer};
+use mr_sim::{Asked, Command, Expectation, Form, JobTextFault, Question, Seen, SimFault, answer};
 use mr_sim_commands::{JobKind, read_job_text};
 use mr_world_events::{PlanAct, PlanFault};
 use std::process::Abort;
@@ -55,6 +55,21 @@ fn answers_without_a_handle(rt: HostRuntime) {
         jobs: None,
     };
     answers(&rt, command, ONE, b"# 1 run with at most 0 faults\nnone\n");
+    let command = Command::ExploreMerged {
+        asked: Question {
+            faults: 0,
+            goal: Some(goal.as_slice()),
+            form: Form::Json,
+        },
+        progress: false,
+        jobs: None,
+    };
+    answers(
+        &rt,
+        command,
+        ONE,
+        b"{\"all\":true,\"ends\":1,\"faults\":0,\"sequential\":true}\n",
+    );
 }
 
 // Without a handle there is no thread. A bad job text is told all the same.

@@ -1,14 +1,12 @@
-use Rattle.mr_world_state.specs.contracts.config.ConfigPartialEq.TheImpl.{eq-value}
-use Rattle.mr_world_state.proofs.Same_parts.{same_config, one_config, other_config, other_history, with_names}
+use Rattle.mr_world_state.proofs.Same_parts.{other_config, other_history, with_names}
 use Rattle.mr_world_state.proofs.parts.Parts.has_same_stores.Goals as goal
 
-pub returns-then-not-is_same : goal.returns-then-not-is_same
-returns-then-not-is_same c = other_history c.args.self.now c.args.other.now c.is_same.result c.if-not-is_same.true c.is_same.ensures
+pub returns-then-not-is_same_history : goal.returns-then-not-is_same_history
+returns-then-not-is_same_history c = other_history c.args.self.now c.args.other.now c.is_same_history.result c.if-not-is_same_history.true c.is_same_history.ensures
 
-pub returns-then-ne : goal.returns-then-ne
-returns-then-ne c = other_config c.args.self.now c.args.other.now c.ne.result (eq-value.it c.args.self.now.config c.args.other.now.config) c.if-ne.true c.ne.ensures (same_config c.args.self.now.config c.args.other.now.config)
+pub returns-then-not-is_same_config : goal.returns-then-not-is_same_config
+returns-then-not-is_same_config c = other_config c.args.self.now c.args.other.now c.is_same_config.result c.if-not-is_same_config.true c.is_same_config.ensures
 
 pub returns : goal.returns
-returns c = with_names c.args.self.now c.args.other.now c.is_same-2.result (c.is_same.ensures.0 c.if-not-is_same.false)
-    (one_config c.args.self.now c.args.other.now c.ne.result (eq-value.it c.args.self.now.config c.args.other.now.config) c.if-ne.false c.ne.ensures (same_config c.args.self.now.config c.args.other.now.config))
-    c.is_same-2.ensures
+returns c = with_names c.args.self.now c.args.other.now c.is_same_names.result (c.is_same_history.ensures.0 c.if-not-is_same_history.false) (c.is_same_config.ensures.0 c.if-not-is_same_config.false)
+    c.is_same_names.ensures
