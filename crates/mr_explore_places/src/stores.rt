@@ -15,12 +15,6 @@ use std::alloc::{AllocError, Global};
 // A row holds so many places at most.
 const ROW_ROOM: usize = 4;
 
-// A run that departs no more is looked up behind its last departure and at so many steps from there on: there it mostly meets one that departed elsewhere.
-const FIRST_STEPS: u64 = 3;
-
-// Further on it is looked up at each step of so many: a run that is met is left out a few steps later than it could be.
-const STRIDE: u64 = 4;
-
 /// A place that is kept, and its mark.
 #[derive(Drop)]
 pub struct Kept<R, F> {
@@ -245,12 +239,7 @@ fn is_kept<R: MarkedRun>(bounds: &Bounds, place: &Place<R, R::Fault>) -> bool {
     place.steps != 0 && bounds.meet != 0 && place.run.stage() % bounds.meet == 0
 }
 
-// Whether one that is not kept is looked up.
-fn is_sought<R: MarkedRun>(place: &Place<R, R::Fault>) -> bool {
-    place.steps <= FIRST_STEPS || place.steps % STRIDE == 0
-}
-
-// A place of a run that departs no more is looked up among all, or not; where none stands for it, it may be kept. Whether it has to be made.
+// A place of a run that departs no more is looked up among all; where none stands for it, it may be kept. Whether it has to be made.
 fn visit_last<R: MarkedRun>(
     alloc: Global,
     stores: &mut Stores<R, R::Fault>,
@@ -260,22 +249,18 @@ fn visit_last<R: MarkedRun>(
     ensures visits { IfOk result (λ makes. Visits R.before R.like stores.old place.now makes stores.new) }
     ensures fault { IfErr result IsNotFull }
 {
-    let keeps = is_kept(bounds, place);
-    if !keeps && !is_sought(place) {
-        return Ok(true);
-    }
     let mark = place.run.mark(alloc, &place.owed)?;
     if covers_any(alloc, stores, mark, place)? {
         return Ok(false);
     }
-    if !keeps {
+    if !is_kept(bounds, place) {
         return Ok(true);
     }
     keep_in(alloc, &mut stores.last, mark, place)?;
     Ok(true)
 }
 
-/// A place is looked up, unless that is not worth its while; where none that is kept stands for it, it may be kept. Whether it has to be made.
+/// A place is looked up; where none that is kept stands for it, it may be kept. Whether it has to be made.
 pub fn visit<R: MarkedRun>(
     alloc: Global,
     stores: &mut Stores<R, R::Fault>,
