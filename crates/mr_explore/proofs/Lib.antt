@@ -12,3 +12,4 @@ mod Trying
 mod Unseen
 mod Waiting
 mod Winning
+mod Unasked

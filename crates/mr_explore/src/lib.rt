@@ -64,5 +64,6 @@ pub use mr_explore_ends::{Outcome, Row, Table, best_of, read_goal};
 pub use mr_explore_faults::Fault;
 pub use output::{explore_output, explored_text};
 pub use sequential::sequential_of;
+pub use vain::asks_in;
 pub use watch::{Unwatched, Watch};
 pub use winners::Winners;

@@ -41,9 +41,9 @@ module _ (p q : Player) where
   n = (state_in q).cursor
 
   -- an event that delivered the packet is among these
-  pub came-by : (i : ℕ) (e : Event) (es : List Event) (at : ℕ) → slice_get es at ≡ Some e → IsThis p q i e → CameIn p q i es
-  came-by i (Deliver j) es at is one = (j, in-events (Deliver j) es at j is (eq-eqb j j refl), one)
-  came-by i _ es at is one = absurd one
+  pub came_by : (i : ℕ) (e : Event) (es : List Event) (at : ℕ) → slice_get es at ≡ Some e → IsThis p q i e → CameIn p q i es
+  came_by i (Deliver j) es at is one = (j, in-events (Deliver j) es at j is (eq-eqb j j refl), one)
+  came_by i _ es at is one = absurd one
 
   -- of all events, each that delivered a packet
   pub each-came : (fs es : List Event) → AllByRecursion (CameToo p q fs) es → (i : ℕ) → was_delivered es i ≡ true → (i < length bag) × CameIn p q i fs

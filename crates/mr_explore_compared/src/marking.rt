@@ -9,16 +9,18 @@ use mr_explore_search::WalkFault;
 use mr_packet::{Address, ContainerId, Envelope, Packet};
 use mr_play::Player;
 use mr_play::mr_world::World;
+use mr_world_events::Event;
 
 // 2 ^ 64 divided by the golden ratio: it spreads what is multiplied by it.
 const SPREAD: u64 = 0x9E37_79B9_7F4A_7C15;
 
-/// A number that runs which are like each other share, and others mostly do not. Its only fault is an allocation failure.
+/// A number that runs which are like each other share, where the same came to both, and others mostly do not. Its only fault is an allocation failure.
 pub fn mark(run: &Explored, owed: &[Fault]) -> Result<u64, WalkFault>
     ensures fault { IfErr result IsNotFull }
 {
     let player = run.player();
     let so_far = of_packets(player, owed.len() as u64);
+    let so_far = of_delivered(player, so_far);
     let so_far = of_master(&player.world, so_far);
     of_living(&player.world, so_far)
 }
@@ -39,6 +41,33 @@ fn of_packets(player: &Player, first: u64) -> u64 {
         so_far = of_packet(so_far, &bag[place]);
     }
     so_far
+}
+
+// Which packets were delivered, in whatever order and however often: a bit for each in two words.
+fn of_delivered(player: &Player, first: u64) -> u64 {
+    let bag = player.world.bag();
+    let (mut low, mut high) = (0, 0);
+    for event in player.world.journal() {
+        if let Some(packet) = delivered(bag, event) {
+            let number = of_packet(1, packet);
+            low |= bit(number >> 58);
+            high |= bit(number >> 52);
+        }
+    }
+    mix(mix(first, low), high)
+}
+
+// The packet that an event delivered, if it did.
+fn delivered<'a>(bag: &'a [Envelope], event: &Event) -> Option<&'a Envelope> {
+    match event {
+        Event::Deliver { packet } => bag.get(*packet as usize),
+        _ => None,
+    }
+}
+
+// One of 64 bits.
+fn bit(number: u64) -> u64 {
+    1 << (number % 64)
 }
 
 fn of_container(so_far: u64, container: &ContainerId) -> u64 {

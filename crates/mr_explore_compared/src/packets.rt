@@ -1,11 +1,11 @@
 //! Packets of two plays: which are one, which lie ahead, and how many lie last that only ask.
 ghost use Rattle.std.specs.Prelude.{◌≡◌, ◌≤◌, ◌<◌, ◌-◌, IsTrue, Some, slice_get};
 ghost use Rattle.mr_play.specs.Players.{cluster_in, state_in};
-ghost use Rattle.mr_explore.specs.Vain.{asks_in};
 ghost use Rattle.mr_explore_likeness.specs.Plays.{asking_last};
 ghost use Rattle.mr_explore_compared.specs.inner.Compared.{HaveOneAhead, IsOne};
 
-use mr_packet::{Envelope, Packet};
+use mr_explore::asks_in;
+use mr_packet::Envelope;
 use mr_play::Player;
 
 /// Whether the packets at these places are one: both were passed over and are equal, or they lie as far ahead.
@@ -108,21 +108,9 @@ pub fn asking_last(bag: &[Envelope]) -> usize
 {
     let mut from = 0;
     for place in 0..bag.len() {
-        if !asks(&bag[place]) {
+        if !asks_in(&bag[place]) {
             from = place + 1;
         }
     }
     bag.len() - from
-}
-
-// Whether the packet is such.
-fn asks(packet: &Envelope) -> bool
-    ensures { result ≡ asks_in packet.now }
-{
-    match &packet.body {
-        Packet::Where { .. } | Packet::Pending { .. } | Packet::Poll { .. } | Packet::Done { .. } =>
-            true,
-        Packet::Answer { yes, .. } => !*yes,
-        _ => false,
-    }
 }
