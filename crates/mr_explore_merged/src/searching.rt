@@ -17,11 +17,14 @@ use mr_sim_commands::SimFault;
 use std::alloc::Global;
 use std::thread::Threads;
 
-// In so many rows places are kept from which something may depart, by all threads together, and in as many those of runs that depart no more.
+// In so many rows places are kept from which something may depart, by all threads together.
 const ROWS: usize = 4096;
 
-// Runs that depart no more are kept where the number of events of their scripts is a multiple of this.
-const MEET: u64 = 32;
+// In so many rows those of runs that depart no more are kept: these are met soon, or never.
+const LAST_ROWS: usize = 512;
+
+// Runs that depart no more are kept where the number of events of their scripts is a multiple of this, by several threads as many times more often.
+const MEET: u64 = 64;
 
 // How far a search over runs with at most so many faults goes, and how many places it keeps.
 #[tactic(auto, unfolding(mr_explore::specs::Faults::most_events))]
@@ -33,7 +36,7 @@ fn bounds_for(faults: u32) -> Bounds
         faults,
         steps: MAX_EVENTS as u64,
         rows: ROWS,
-        last_rows: ROWS,
+        last_rows: LAST_ROWS,
         meet: MEET,
     }
 }

@@ -31,7 +31,7 @@ pub use laws::{
     found_came, joined_has_all, joined_tells_both, limit_is_of_one, rows_are_least_found,
     rows_are_least_of_all, what_is_stood_for_is_told,
 };
-pub use noted::Noted;
+pub use noted::{Noted, STRIDE};
 pub use observer::{Observer, Unobserved};
 pub use run::NotedRun;
 pub use searching::{least_runs, note_all};

@@ -10,8 +10,8 @@ use mr_explore_search::Ended;
 use std::alloc::{AllocError, Global};
 use std::marker::Model;
 
-// An observer is told each time that so many runs more were found.
-const STRIDE: u64 = 100_000;
+/// An observer is told each time that so many runs more were found.
+pub const STRIDE: u64 = 100_000;
 
 /// The runs that were found so far. Contracts see it as its table.
 #[derive(Drop)]

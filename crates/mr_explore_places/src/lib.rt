@@ -10,7 +10,8 @@
 //!   left out: each is told, and nothing departs from it.
 //! - So each of all runs was found, or an earlier one with its end, where what the runs say is true (`each_end_is_found`, whose premise is `Likens` of
 //!   mr_explore_alike).
-//! - No contract depends on what is kept: which places are looked up, where they lie, how many there are, and which one goes.
+//! - No contract depends on what is kept: which places are looked up, where they lie, how many there are, and which one goes. So they can all be let go
+//!   (`forget_places`); that their memory is given back is in no clause.
 //! - `Full` is answered only where a run of the definition would pass a limit (`Stops`).
 //! - After a refusal the same refusal is answered, and nothing changes.
 //! - Parts can be given away (`next_apart`), copied (`Part::fork`), and searched by others with places of their own (`of_part`). Where the rest is done, and each part that was given

@@ -105,6 +105,13 @@ impl<R: MarkedRun> Search<R> {
         Ok(())
     }
 
+    /// From here on it keeps none of the places that it kept so far, and gives their memory back. It finds what it would have found else, and perhaps more runs than it needs.
+    pub fn forget_places(&mut self, alloc: Global)
+        ensures { (bounds : Bounds) (first : R) (parts given : List (Level R R.Fault)) (found : List (Found R)) → HasFound R.steps R.rest R.before R.void R.like R.ends bounds first parts given found self.old → HasFound R.steps R.rest R.before R.void R.like R.ends bounds first parts given found self.new }
+    {
+        self.stores = Stores::none(alloc);
+    }
+
     /// The next run that came to its end, in the order in which they are made; no run where all that are needed were found.
     ///
     /// Refusals: `Full` where a run would pass a limit, and an allocation failure. `Mismatch` where a run is not at its end behind as many steps as the bounds say, which can't be where

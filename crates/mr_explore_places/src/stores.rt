@@ -52,6 +52,16 @@ impl<R: Drop, F: Drop> Stores<R, F> {
         let last = empty_rows(alloc, bounds.last_rows)?;
         Ok(Stores { departing, last })
     }
+
+    /// No place is kept, nor will one be.
+    pub fn none(alloc: Global) -> Stores<R, F>
+        ensures { (h : Here R F) → IsHeld result h → ⊥ }
+    {
+        Stores {
+            departing: Vec::new(alloc),
+            last: Vec::new(alloc),
+        }
+    }
 }
 
 // So many rows that hold nothing.

@@ -22,7 +22,7 @@ use std::marker::Model;
 use std::thread::Threads;
 
 // So many parts are counted at once for each thread.
-const PARTS: usize = 16;
+const PARTS: usize = 128;
 
 // The same where a time is given, which is looked at before each round of parts.
 const PARTS_IN_TIME: usize = 2;

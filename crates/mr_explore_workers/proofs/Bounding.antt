@@ -1,5 +1,5 @@
 -- How many places are kept is no matter: of the bounds of a search its definition reads the numbers of faults and of steps.
-use Rattle.std.proofs.Common.{◌≡◌, ℕ, Bool, List, [], Result, IfErr, sym, subst}
+use Rattle.std.proofs.Common.{◌≡◌, ℕ, Bool, List, [], Result, IfErr, subst}
 use Rattle.mr_world_events.specs.declared.event.Event.{Event}
 use Rattle.mr_explore_search.specs.Steps.{Steps}
 use Rattle.mr_explore_search.specs.Runs.{Found, Run}

@@ -1,4 +1,4 @@
+pub mod Lists
 pub mod Sharing
 pub mod Dividing
 pub mod Bounding
-pub mod Searching

@@ -7,28 +7,32 @@
 //! - **Threads change nothing** (`least_runs_by_threads`). Its contract is that of `least_runs`, and no clause names the number of threads: the table tells just
 //!   the runs that were found, and all were found that are needed (`HasAll` of mr_explore_noted). Its premise is that runs with as many faults and the same
 //!   events came to one end (`EachHasOneEnd`). The rows are then determined by which runs there are (`rows_are_least_of_all` of mr_explore_noted).
-//! - **A worker is given parts of the search**, and searches them with places and a table of its own. Each part that the search gives away is with one of the
-//!   workers (`AreGiven` of `specs/inner/Working`), and at the end their tables are joined (`joined_has_all` of mr_explore_noted).
+//! - **Workers search parts of the search**, with places and a table of their own. One of them has searched each part that the search gave away
+//!   (`HaveWorked` of `specs/inner/Working`), and at the end their tables are joined (`joined_has_all` of mr_explore_noted).
 //! - `Full` is answered only where a run of the definition would pass a limit, whichever thread came to it (`Stops`).
 //!
 //! Only tested: that threads find runs where there is memory (tests_explore). Neither: how much sooner all is done.
 //!
 //! # Choices
 //!
-//! - **Threads share nothing.** A worker keeps its places and its table from round to round. The rows in which places are kept are divided among the threads, so
-//!   the memory does not grow with their number. A run that one worker made another one may make again.
-//! - **Rounds.** In each the search gives sixteen parts to each worker, in turn, and then all workers search theirs. Parts that stand beside each other are of
-//!   like size, so each worker gets about as much. Runs that the search meets while it looks for parts are noted at once.
+//! - **Threads share the parts of a round, which they only read, and the number of the next one.** A worker keeps its places and its table from round to round. The
+//!   rows in which places are kept are divided among the threads, so the memory does not grow with their number. A run that one worker made another one may
+//!   make again.
+//! - **Rounds.** The search gives away 128 parts for each worker. Whoever is free copies the next one and searches it, since one part may cost many times what
+//!   another one does. Runs that the search meets while it looks for parts are noted at once.
+//! - **A worker tells which parts it searched**, by their places. Behind the round each place has to be told, or that is a mismatch: nothing is known of a number
+//!   that threads share.
+//! - **Each worker lets its own places go** behind the last round. They are gigabytes in small pieces, and one thread would take seconds for all of them.
 //! - **Tables are joined at the end**, in the order of the workers. The order is no matter.
 //! - **A worker that stops keeps its fault**, and the search stops behind the round. The contract does not rest on that: a table of a worker that has stopped is
 //!   never joined.
 //!
 //! # How it is proved
 //!
-//! - `WasGiven` (`specs/inner/Working`): of the parts that a worker was given it has searched some, and the others are before it; or it has stopped. `work`
-//!   keeps that, whatever the parts, and leaves nothing before it. So `AreGiven`, of all workers, is the same before a round's work and behind it.
+//! - `HasWorked` (`specs/inner/Working`): a worker has searched these parts, or has stopped. `work` adds those that it tells. So behind a round the
+//!   workers have searched what they had, and the parts of the round (`taken`).
 //! - Lists of parts are compared by `AreThoseOf` of mr_explore_places: no part need stand there once.
-//! - `proofs/Sharing` is of workers, `proofs/Searching` of what a worker has done, `proofs/Dividing` of the search that gives parts away, and `proofs/Bounding`
+//! - `proofs/Sharing` is of workers, `proofs/Lists` of which parts they tell, `proofs/Dividing` of the search that gives parts away, and `proofs/Bounding`
 //!   says that it is no matter how many rows are kept.
 //! - The closure of `work_all` states its clause: one without a clause says nothing that an answer can name.
 #![tactic(auto)]

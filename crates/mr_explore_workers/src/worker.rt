@@ -1,11 +1,12 @@
 //! What one thread does: it searches parts, with places and a table of its own.
 ghost use Rattle.std.specs.Prelude.{◌≡◌, ◌∷◌, ◌++◌, [], List, None, Some, IfOk, IfErr, OnOk};
+ghost use Rattle.std.specs.List.{All};
 ghost use Rattle.mr_explore_places.specs.Going.{Stops};
 ghost use Rattle.mr_explore_places.specs.State.{IsPart};
 ghost use Rattle.mr_explore_places.specs.declared.bounds.Bounds as places;
 ghost use Rattle.mr_explore_places.specs.declared.level.Level.{Level};
 ghost use Rattle.mr_explore_noted.specs.Searched.{HasSearched};
-ghost use Rattle.mr_explore_workers.specs.inner.Working.{HasBegun, IsIdle, WasGiven};
+ghost use Rattle.mr_explore_workers.specs.inner.Working.{HasDone, HasWorked, has_taken, parts_at};
 
 use mr_explore_least::LeastTable;
 use mr_explore_noted::{Noted, NotedRun, Unobserved, note_all};
@@ -13,14 +14,15 @@ use mr_explore_places::{Bounds, Part, Search};
 use mr_explore_search::WalkFault;
 use std::alloc::{AllocError, Global};
 use std::marker::Model;
+use std::sync::atomic::{AtomicUsize, Ordering};
 
-/// A worker: it searches the parts that it is given. What it found is in its table.
+/// A worker: it searches parts. What it found is in its table.
 #[derive(Drop)]
 pub struct Worker<R: NotedRun> {
     search: Search<R>,
     noted: Noted<R>,
-    // What it has before it.
-    parts: Vec<Part<R, R::Fault>>,
+    // At which places the parts of the last round stand that it searched.
+    took: Vec<usize>,
     // Why it has stopped, if it has.
     fault: Option<WalkFault>,
 }
@@ -30,41 +32,69 @@ impl<R: NotedRun> Model for Worker<R> {
 
     ghost Value = { Working R R.Fault };
 
-    ghost view = { λ w. record { search = w.search; table = w.noted; parts = w.parts.items; fault = w.fault } };
+    ghost view = { λ w. record { search = w.search; table = w.noted; took = w.took.items; fault = w.fault } };
 }
 
 impl<R: NotedRun> Worker<R> {
-    /// A worker that was given nothing yet, and goes as far as the bounds say. It fails where there is no memory.
+    /// A worker that has searched nothing yet, and goes as far as the bounds say. It fails where there is no memory.
     pub fn new(alloc: Global, bounds: &Bounds) -> Result<Worker<R>, AllocError>
-        ensures { IfOk result (λ worker. (first : R) → WasGiven R.steps R.rest R.before R.void R.like R.ends R.end R.events bounds.now first [] worker) }
+        ensures { IfOk result (λ worker. (first : R) → HasWorked R.steps R.rest R.before R.void R.like R.ends R.end R.events bounds.now first [] worker) }
     {
         let search = Search::idle(alloc, *bounds)?;
         Ok(Worker {
             search,
             noted: Noted::new(alloc),
-            parts: Vec::new(alloc),
+            took: Vec::new(alloc),
             fault: None,
         })
     }
 
-    /// A part more comes before it. It fails where there is no memory.
-    pub fn give(&mut self, part: Part<R, R::Fault>) -> Result<(), AllocError>
-        ensures { OnOk result (self.new ≡ record self.old { parts = self.old.parts ++ part ∷ [] }) }
+    /// It searches parts of a round, whichever is next, until none is left, unless it has stopped. In the last round it gives back the memory of its places
+    /// then: they are many, so each thread does so for its own.
+    pub fn work(
+        &mut self,
+        alloc: Global,
+        parts: &[Part<R, R::Fault>],
+        next: &AtomicUsize,
+        is_last: bool,
+    )
+        ensures { (bounds : places.Bounds) (first : R) (mine : List (Level R R.Fault)) → All (IsPart R.steps bounds first) parts.now → HasWorked R.steps R.rest R.before R.void R.like R.ends R.end R.events bounds first mine self.old
+            → HasWorked R.steps R.rest R.before R.void R.like R.ends R.end R.events bounds first (parts_at parts.now self.new.took ++ mine) self.new }
     {
-        self.parts.push(part)?;
-        Ok(())
+        self.search_some(alloc, parts, next);
+        self.forget_if(alloc, is_last);
     }
 
-    /// It searches all parts that it was given, unless it has stopped.
-    pub fn work(&mut self, alloc: Global)
-        ensures given { (bounds : places.Bounds) (first : R) (mine : List (Level R R.Fault)) → WasGiven R.steps R.rest R.before R.void R.like R.ends R.end R.events bounds first mine self.old → WasGiven R.steps R.rest R.before R.void R.like R.ends R.end R.events bounds first mine self.new }
-        ensures idle { IsIdle self.new }
+    // It searches parts of a round, unless it has stopped.
+    fn search_some(&mut self, alloc: Global, parts: &[Part<R, R::Fault>], next: &AtomicUsize)
+        ensures { (bounds : places.Bounds) (first : R) (mine : List (Level R R.Fault)) → All (IsPart R.steps bounds first) parts.now → HasWorked R.steps R.rest R.before R.void R.like R.ends R.end R.events bounds first mine self.old
+            → HasWorked R.steps R.rest R.before R.void R.like R.ends R.end R.events bounds first (parts_at parts.now self.new.took ++ mine) self.new }
     {
         if self.fault.is_some() {
             return;
         }
-        let result = search_parts(alloc, &mut self.search, &mut self.noted, &mut self.parts);
-        self.fault = result.err();
+        match search_next(alloc, &mut self.search, &mut self.noted, parts, next) {
+            Ok(took) => self.took = took,
+            Err(fault) => self.fault = Some(fault),
+        }
+    }
+
+    // In the last round it keeps no place any more.
+    fn forget_if(&mut self, alloc: Global, is_last: bool)
+        ensures worked { (bounds : places.Bounds) (first : R) (mine : List (Level R R.Fault)) → HasWorked R.steps R.rest R.before R.void R.like R.ends R.end R.events bounds first mine self.old → HasWorked R.steps R.rest R.before R.void R.like R.ends R.end R.events bounds first mine self.new }
+        ensures took { self.new.took ≡ self.old.took }
+    {
+        if !is_last {
+            return;
+        }
+        self.search.forget_places(alloc);
+    }
+
+    /// Whether it searched the part at this place of the last round.
+    pub fn has_taken(&self, place: usize) -> bool
+        ensures { result ≡ has_taken place self.now }
+    {
+        self.took.iter().any(|took| *took == place)
     }
 
     /// How many runs it has found.
@@ -80,7 +110,7 @@ impl<R: NotedRun> Worker<R> {
         let Worker {
             search: _,
             noted,
-            parts: _,
+            took: _,
             fault,
         } = self;
         match fault {
@@ -97,23 +127,45 @@ impl<R: NotedRun> Worker<R> {
     }
 }
 
-// All parts are searched, one after the other.
-fn search_parts<R: NotedRun>(
+// Parts are searched, whichever is next, until none is left: at which places they stand.
+fn search_next<R: NotedRun>(
     alloc: Global,
     search: &mut Search<R>,
     noted: &mut Noted<R>,
-    parts: &mut Vec<Part<R, R::Fault>>,
-) -> Result<(), WalkFault>
-    ensures begun { (bounds : places.Bounds) (first : R) (mine : List (Level R R.Fault)) → HasBegun R.steps R.rest R.before R.void R.like R.ends R.end R.events bounds first mine parts.old.items search.old noted.old
-        → OnOk result (HasBegun R.steps R.rest R.before R.void R.like R.ends R.end R.events bounds first mine parts.new.items search.new noted.new) }
-    ensures all { OnOk result (parts.new.items ≡ []) }
-    ensures fault { (bounds : places.Bounds) (first : R) (mine : List (Level R R.Fault)) → HasBegun R.steps R.rest R.before R.void R.like R.ends R.end R.events bounds first mine parts.old.items search.old noted.old
+    parts: &[Part<R, R::Fault>],
+    next: &AtomicUsize,
+) -> Result<Vec<usize>, WalkFault>
+    ensures done { (bounds : places.Bounds) (first : R) (mine : List (Level R R.Fault)) → All (IsPart R.steps bounds first) parts.now → HasDone R.steps R.rest R.before R.void R.like R.ends R.end R.events bounds first mine search.old noted.old
+        → IfOk result (λ took. HasDone R.steps R.rest R.before R.void R.like R.ends R.end R.events bounds first (parts_at parts.now took.items ++ mine) search.new noted.new) }
+    ensures fault { (bounds : places.Bounds) (first : R) (mine : List (Level R R.Fault)) → All (IsPart R.steps bounds first) parts.now → HasDone R.steps R.rest R.before R.void R.like R.ends R.end R.events bounds first mine search.old noted.old
         → IfErr result (Stops R.steps bounds.faults bounds.steps first) }
 {
-    while let Some(part) = parts.pop() {
-        search_part(alloc, search, noted, part)?;
+    let mut took = Vec::new(alloc);
+    for _ in 0..parts.len() {
+        let place = next.fetch_add(1, Ordering::SeqCst);
+        let Some(part) = parts.get(place) else {
+            return Ok(took);
+        };
+        search_copy(alloc, search, noted, part)?;
+        took.push(place)?;
     }
-    Ok(())
+    Ok(took)
+}
+
+// A copy of a part is searched, since others may read it.
+fn search_copy<R: NotedRun>(
+    alloc: Global,
+    search: &mut Search<R>,
+    noted: &mut Noted<R>,
+    part: &Part<R, R::Fault>,
+) -> Result<(), WalkFault>
+    ensures all { (bounds : places.Bounds) (first : R) (done : List (Level R R.Fault)) → HasSearched R.steps R.rest R.before R.void R.like R.ends R.end R.events bounds first done [] search.old noted.old → IsPart R.steps bounds first part.now
+        → OnOk result (HasSearched R.steps R.rest R.before R.void R.like R.ends R.end R.events bounds first (part.now ∷ done) [] search.new noted.new) }
+    ensures fault { (bounds : places.Bounds) (first : R) (done : List (Level R R.Fault)) → HasSearched R.steps R.rest R.before R.void R.like R.ends R.end R.events bounds first done [] search.old noted.old → IsPart R.steps bounds first part.now
+        → IfErr result (Stops R.steps bounds.faults bounds.steps first) }
+{
+    let copy = part.fork(alloc)?;
+    search_part(alloc, search, noted, copy)
 }
 
 // One part is searched. A search that has not stopped takes a part unless there is no memory.

@@ -1,6 +1,7 @@
--- What workers have before them, and what they have searched (our own profile).
-use Rattle.std.specs.Prelude.{◌≡◌, ℕ, Bool, true, false, List, [], ◌∷◌, Option, Some, None, IfNone}
-use Rattle.std.specs.List.{All, AllByRecursion}
+-- What workers have searched of the parts that a search gave away (our own profile).
+use Rattle.std.specs.Prelude.{◌≡◌, ◌++◌, ℕ, Bool, true, false, nat_eq, List, [], ◌∷◌, Option, Some, None, slice_get}
+use Rattle.std.specs.List.{All, list_any}
+use Rattle.std.specs.Option.{option_to_list}
 use Rattle.mr_world_events.specs.declared.event.Event.{Event}
 use Rattle.mr_explore_search.specs.Steps.{Steps}
 use Rattle.mr_explore_search.specs.declared.fault.WalkFault.{WalkFault}
@@ -13,64 +14,76 @@ use Rattle.mr_explore_ends.specs.Outcomes.{Outcome}
 use Rattle.mr_explore_least.specs.Table.{Table}
 use Rattle.mr_explore_noted.specs.Searched.{HasAll, HasSearched, IsOnTheWay}
 
--- a worker: its search, the table of the runs that it found, the parts that it has before it, and why it has stopped, if it has
+-- a worker: its search, the table of the runs that it found, at which places the parts of the last round stand that it searched, and why it has stopped, if it has
 pub record Working (S F : Type 0) : Type 0 where
   pub search : State S F
   pub table : Table
-  pub parts : List (Level S F)
+  pub took : List ℕ
   pub fault : Option WalkFault
 
--- it has nothing before it, unless it has stopped
-abbrev pub IsIdle : {S F : Type 0} → Working S F → Type 0
-IsIdle w = IfNone w.fault (w.parts ≡ [])
+-- those of these parts that stand at these places
+abbrev pub parts_at : {S F : Type 0} → List (Level S F) → List ℕ → List (Level S F)
+parts_at parts [] = []
+parts_at parts (place ∷ places) = option_to_list (slice_get parts place) ++ parts_at parts places
+
+-- those of these parts that the workers searched
+abbrev pub taken : {S F : Type 0} → List (Level S F) → List (Working S F) → List (Level S F)
+taken parts [] = []
+taken parts (w ∷ ws) = parts_at parts w.took ++ taken parts ws
+
+-- it searched the part at this place; one of the workers did
+abbrev pub has_taken : {S F : Type 0} → ℕ → Working S F → Bool
+has_taken place w = list_any (λ took. nat_eq took place) w.took
+
+abbrev pub is_taken : {S F : Type 0} → ℕ → List (Working S F) → Bool
+is_taken place ws = list_any (has_taken place) ws
 
 module _ {S F : Type 0} (steps : Steps S F) (rest : S → ℕ) (before : S → S → Bool) (void : S → Bool) (like : S → List F → S → List F → Type 0) (ends : S → S → Type 0) (end : S → Outcome) (events : S → List Event) where
-  -- of these parts of the search it has searched some, and the others are before it
-  pub record HasBegun (bounds : Bounds) (first : S) (mine left : List (Level S F)) (s : State S F) (t : Table) : Type 0 where
+  -- these parts of the search were searched
+  pub record HasDone (bounds : Bounds) (first : S) (mine : List (Level S F)) (s : State S F) (t : Table) : Type 0 where
     pub done : List (Level S F)
-    pub shared : AreThoseOf steps rest before void like ends mine left done
+    pub shared : AreThoseOf steps rest before void like ends mine done []
     pub searched : HasSearched steps rest before void like ends end events bounds first done [] s t
-    pub are_parts : All (IsPart steps bounds first) left
 
   -- the same; or it has stopped, for a reason of the definition
-  abbrev pub HasBegunOrStops : Option WalkFault → Bounds → (first : S) → (mine left : List (Level S F)) → State S F → Table → Type 0
-  HasBegunOrStops None bounds first mine left s t = HasBegun bounds first mine left s t
-  HasBegunOrStops (Some f) bounds first mine left s t = Stops steps bounds.faults bounds.steps first f
+  abbrev pub HasDoneOrStops : Option WalkFault → Bounds → (first : S) → (mine : List (Level S F)) → State S F → Table → Type 0
+  HasDoneOrStops None bounds first mine s t = HasDone bounds first mine s t
+  HasDoneOrStops (Some f) bounds first mine s t = Stops steps bounds.faults bounds.steps first f
 
-  -- a worker was given these parts
-  abbrev pub WasGiven : Bounds → (first : S) → (mine : List (Level S F)) → Working S F → Type 0
-  WasGiven bounds first mine w = HasBegunOrStops w.fault bounds first mine w.parts w.search w.table
+  -- a worker has searched these parts, or has stopped
+  abbrev pub HasWorked : Bounds → (first : S) → (mine : List (Level S F)) → Working S F → Type 0
+  HasWorked bounds first mine w = HasDoneOrStops w.fault bounds first mine w.search w.table
 
-  -- each of these parts was given to one of the workers
-  abbrev pub AreGiven : Bounds → (first : S) → (given : List (Level S F)) → List (Working S F) → Type 0
-  AreGiven bounds first given [] = given ≡ []
-  AreGiven bounds first given (w ∷ ws) = (mine others : List (Level S F)) × AreThoseOf steps rest before void like ends given mine others × AreThoseOf steps rest before void like ends others given [] × WasGiven bounds first mine w × AreGiven bounds first others ws
+  -- one of the workers has searched each of these parts, or has stopped
+  abbrev pub HaveWorked : Bounds → (first : S) → (given : List (Level S F)) → List (Working S F) → Type 0
+  HaveWorked bounds first given [] = given ≡ []
+  HaveWorked bounds first given (w ∷ ws) = (mine others : List (Level S F)) × AreThoseOf steps rest before void like ends given mine others × AreThoseOf steps rest before void like ends others given [] × HasWorked bounds first mine w × HaveWorked bounds first others ws
 
   -- ---- with the search that gives parts away
 
-  -- it is on its way, and the workers were given what it gave away
-  abbrev pub Divides : Bounds → (first : S) → State S F → Table → List (Working S F) → Type 0
-  Divides bounds first s t ws = (given : List (Level S F)) × IsOnTheWay steps rest before void like ends end events bounds first (whole first) given s t × AreGiven bounds first given ws
+  -- these were given away, and it is on its way; or nothing is left to be given, and all else is found
+  abbrev pub Gives : Bounds → (first : S) → (is_done : Bool) → (given : List (Level S F)) → State S F → Table → Type 0
+  Gives bounds first false given s t = IsOnTheWay steps rest before void like ends end events bounds first (whole first) given s t
+  Gives bounds first true given s t = HasAll steps rest before void like ends end events bounds first (whole first) given t
 
-  -- all is found but for what the workers were given
-  abbrev pub HasDivided : Bounds → (first : S) → Table → List (Working S F) → Type 0
-  HasDivided bounds first t ws = (given : List (Level S F)) × HasAll steps rest before void like ends end events bounds first (whole first) given t × AreGiven bounds first given ws
+  -- the same, and the workers have searched what was given away
+  abbrev pub Divides : Bounds → (first : S) → (is_done : Bool) → State S F → Table → List (Working S F) → Type 0
+  Divides bounds first is_done s t ws = (given : List (Level S F)) × Gives bounds first is_done given s t × HaveWorked bounds first given ws
 
-  -- the same, and the workers have nothing before them
+  -- all is found but for what the workers have searched
   abbrev pub AreDone : Bounds → (first : S) → Table → List (Working S F) → Type 0
-  AreDone bounds first t ws = HasDivided bounds first t ws × AllByRecursion IsIdle ws
+  AreDone bounds first t ws = (given : List (Level S F)) × HasAll steps rest before void like ends end events bounds first (whole first) given t × HaveWorked bounds first given ws
 
   -- the next part is given away; or there is none, and all else is found
   abbrev pub GoesApart : Bounds → (first : S) → (parts given : List (Level S F)) → Option (Level S F) → State S F → Table → Type 0
   GoesApart bounds first parts given (Some l) s t = IsOnTheWay steps rest before void like ends end events bounds first parts (l ∷ given) s t × IsPart steps bounds first l
   GoesApart bounds first parts given None s t = HasAll steps rest before void like ends end events bounds first parts given t
 
-  -- workers were given parts; or nothing is left to be given
-  abbrev pub GivesParts : Bounds → (first : S) → (is_done : Bool) → State S F → Table → List (Working S F) → Type 0
-  GivesParts bounds first false s t ws = Divides bounds first s t ws
-  GivesParts bounds first true s t ws = HasDivided bounds first t ws
-
-  -- a round was made: there may be more, or all is found
-  abbrev pub MakesRound : Bounds → (first : S) → (is_done : Bool) → State S F → Table → List (Working S F) → Type 0
-  MakesRound bounds first false s t ws = Divides bounds first s t ws
-  MakesRound bounds first true s t ws = AreDone bounds first t ws
+  -- These parts were given away behind those that were given before.
+  pub record TakesParts (bounds : Bounds) (first : S) (is_done : Bool) (given parts : List (Level S F)) (s : State S F) (t : Table) : Type 0 where
+    pub all : List (Level S F)
+    pub gives : Gives bounds first is_done all s t
+    pub of_all : AreThoseOf steps rest before void like ends all parts given
+    pub parts_too : AreThoseOf steps rest before void like ends parts all []
+    pub given_too : AreThoseOf steps rest before void like ends given all []
+    pub are_parts : All (IsPart steps bounds first) parts
