@@ -1,0 +1,3 @@
+pub mod Going
+mod Kept
+mod Short

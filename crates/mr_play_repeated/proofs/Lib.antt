@@ -1,0 +1,5 @@
+pub mod Again
+mod Bounded
+pub mod Faithfully
+pub mod Scripted
+pub mod Worded
