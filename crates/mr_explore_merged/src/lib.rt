@@ -38,8 +38,8 @@
 //! - **`proofs/Found` is of an exploration's runs.** `each_end_is_found` of mr_explore_places does not serve here: near a limit a run may not go on as one
 //!   that is like it does. `no_careful_end_is_lost` of mr_explore_likeness speaks of the runs of which no look ahead passes a limit.
 //! - **Runs with the same events come to one end** (`proofs/Configs`), since a run keeps its config. That is the premise of joined tables.
-//! - **`JournalMismatch` has no reason** in `MergedFails`: a script that is played leads to the end beside it, or is refused, and that it is not refused is
-//!   not proved. mr_explore leaves it open likewise.
+//! - **`JournalMismatch` has no reason** in `MergedFails`. A script that is played leads to the end beside it, or it is told. That of a run's script it is never
+//!   told is a law of mr_explore_repeated, which is not used here.
 #![tactic(auto)]
 
 mod finding;
