@@ -1,33 +1,18 @@
 -- What is printed of the runs that were made, and why nothing is.
-use Rattle.std.proofs.Common.{◌≡◌, ℕ, List, [], ◌∷◌, map, Result, Ok, Err, IfOk, IfErr, OnOk, IsErrAnd, inl, inr, refl, sym, subst, ◌∙◌}
+use Rattle.std.proofs.Common.{◌≡◌, ℕ, List, map, Result, Ok, Err, IfOk, IfErr, IsErrAnd, inl, inr, refl, sym, subst, ◌∙◌}
 use Rattle.std.proofs.lemmas.Result.{err_from_is_err_and}
-use Rattle.std.specs.List.{AllByRecursion}
 use Rattle.mr_sim_commands.specs.declared.fault.SimFault.{SimFault}
 use Rattle.mr_sim_commands.specs.declared.fault.SimFault.TheVariants as fault
 use Rattle.mr_sim_commands.specs.Faults.{SeqFails}
 use Rattle.mr_play.specs.Text.{job_line}
 use Rattle.mr_explore_search.specs.Taking.{no_more}
-use Rattle.mr_explore_ends.specs.declared.row.Row.{Row}
-use Rattle.mr_explore_ends.specs.Rows.{as_end}
-use Rattle.mr_explore_ends.specs.Table.{End, all_noted}
+use Rattle.mr_explore_ends.specs.Table.{all_noted}
 use Rattle.mr_explore_ends.specs.Text as ends
 use Rattle.mr_explore.specs.declared.asked.Asked.{Asked}
-use Rattle.mr_explore.specs.Ends.{LeadToEnds, LeadsTo, TellFails, TellsEnds}
+use Rattle.mr_explore.specs.Ends.{TellFails, TellsEnds}
 use Rattle.mr_explore.specs.Explored.{ExploredFails, PrintsExplored, found_in, goal_of}
-use Rattle.mr_explore.specs.Checks.{IsUnchecked, IsUnsaid}
+use Rattle.mr_explore.specs.Checks.{IsUnsaid}
 use Rattle.mr_explore.specs.Exploring.{Begins, ExploreFails, Fails, IsFullBehind, Made, Remaining, came, found_of}
-
--- ---- each script leads to its end
-
-pub lead_all : (input : List ℕ) (rows : List Row) (ends : List End) → map as_end rows ≡ ends → AllByRecursion (λ (row : Row). LeadsTo input row.script.items row.end) rows → LeadToEnds input ends
-lead_all input rows ends e h = subst (LeadToEnds input) e (by rows h) where
-  by : (rows : List Row) → AllByRecursion (λ (row : Row). LeadsTo input row.script.items row.end) rows → LeadToEnds input (map as_end rows)
-  by [] h = tt
-  by (row ∷ rows) h = (h.0, by rows h.1)
-
-pub led : {A : Type 0} (input : List ℕ) (rows : List Row) (ends : List End) (r : Result A SimFault) → map as_end rows ≡ ends → OnOk r (AllByRecursion (λ (row : Row). LeadsTo input row.script.items row.end) rows) → OnOk r (LeadToEnds input ends)
-led input rows ends (Ok a) e h = lead_all input rows ends e h
-led input rows ends (Err f) e h = h
 
 -- ---- why nothing is printed
 
@@ -65,7 +50,7 @@ makes_fails asked input x fault.Thread b h = absurd h
 pub tells_fails : {A : Type 0} (asked : Asked) (input : List ℕ) (r : Result A SimFault) → IfErr r (TellFails input) → IfErr r (ExploredFails asked input)
 tells_fails asked input (Ok a) h = h
 tells_fails asked input (Err fault.NoMemory) h = tt
-tells_fails asked input (Err fault.JournalMismatch) h = tt
+tells_fails asked input (Err fault.JournalMismatch) h = absurd h
 tells_fails asked input (Err (fault.Job e)) h = h
 tells_fails asked input (Err fault.Full) h = absurd h
 tells_fails asked input (Err fault.Read) h = absurd h
@@ -88,21 +73,6 @@ makes_failed {A} asked input x f r b h is =
     let z = err_from_is_err_and r is in
     subst (λ (y : Result A SimFault). IfErr y (ExploredFails asked input)) (sym z.1) (subst (ExploredFails asked input) (sym z.2) (makes_fails asked input x f b h))
 
-unchecked_fails : (input : List ℕ) (f : SimFault) → IsUnchecked f → TellFails input f
-unchecked_fails input fault.NoMemory h = tt
-unchecked_fails input fault.JournalMismatch h = tt
-unchecked_fails input fault.Full h = absurd h
-unchecked_fails input fault.Read h = absurd h
-unchecked_fails input fault.Write h = absurd h
-unchecked_fails input fault.TooLong h = absurd h
-unchecked_fails input (fault.BadCommand n) h = absurd h
-unchecked_fails input (fault.BadRecord n) h = absurd h
-unchecked_fails input (fault.Job e) h = absurd h
-unchecked_fails input fault.Refused h = absurd h
-unchecked_fails input fault.JobFailed h = absurd h
-unchecked_fails input fault.TurnsSpent h = absurd h
-unchecked_fails input fault.Thread h = absurd h
-
 unsaid_fails : (input : List ℕ) (f : SimFault) → IsUnsaid (job_line input) f → TellFails input f
 unsaid_fails input fault.NoMemory h = tt
 unsaid_fails input (fault.Job e) h = h
@@ -117,11 +87,6 @@ unsaid_fails input fault.Refused h = absurd h
 unsaid_fails input fault.JobFailed h = absurd h
 unsaid_fails input fault.TurnsSpent h = absurd h
 unsaid_fails input fault.Thread h = absurd h
-
-pub unchecked_failed : {A : Type 0} (input : List ℕ) (f : SimFault) (r : Result A SimFault) → IsUnchecked f → IsErrAnd r (λ g. g ≡ f) → IfErr r (TellFails input)
-unchecked_failed {A} input f r h is =
-    let z = err_from_is_err_and r is in
-    subst (λ (y : Result A SimFault). IfErr y (TellFails input)) (sym z.1) (subst (TellFails input) (sym z.2) (unchecked_fails input f h))
 
 pub unsaid_failed : {A : Type 0} (input : List ℕ) (f : SimFault) (r : Result A SimFault) → IsUnsaid (job_line input) f → IsErrAnd r (λ g. g ≡ f) → IfErr r (TellFails input)
 unsaid_failed {A} input f r h is =

@@ -1,10 +1,10 @@
--- Why scripts are not checked, and files not told.
+-- Why runs are not made, and files not told.
 use Rattle.std.specs.Prelude.{◌≡◌, ℕ, List, Err}
 use Rattle.mr_sim_commands.specs.declared.fault.SimFault.{SimFault}
 use Rattle.mr_sim_commands.specs.declared.fault.SimFault.TheVariants as fault
 use Rattle.mr_sim_commands.specs.job.Text.{submission_of}
 
--- no memory; or `play` came to another end
+-- no memory; or the events of a run could not happen once more
 abbrev pub IsUnchecked : SimFault → Type 0
 IsUnchecked fault.NoMemory = Unit {0}
 IsUnchecked fault.JournalMismatch = Unit {0}

@@ -1,6 +1,5 @@
 -- What is told of the ends that came (our own profile).
 use Rattle.std.specs.Prelude.{◌≡◌, ℕ, List, ◌∷◌, ◌++◌, Option, Some, None}
-use Rattle.std.specs.List.{AllByRecursion}
 use Rattle.mr_play.specs.mr_world.specs.Limits.{within}
 use Rattle.mr_sim_commands.specs.declared.fault.SimFault.{SimFault}
 use Rattle.mr_sim_commands.specs.declared.fault.SimFault.TheVariants as fault
@@ -8,7 +7,6 @@ use Rattle.mr_sim_commands.specs.seq.Text.{PrintsSeq, RefusesSeq}
 use Rattle.mr_play.specs.Text.{IsBadPlayJob, PrintsPlay, job_line}
 use Rattle.mr_script.specs.declared.expectation.Expectation.{Expectation}
 use Rattle.mr_explore_ends.specs.Outcomes.{Outcome, outcome_text}
-use Rattle.mr_explore_ends.specs.Table.{End}
 use Rattle.mr_explore_ends.specs.Text.{Found, Sequential, explored_text}
 use Rattle.mr_explore_ends.specs.JsonLines.{ends_json}
 use Rattle.mr_explore.specs.declared.asked.Form.{Form}
@@ -17,10 +15,6 @@ use Rattle.mr_explore.specs.declared.asked.Form.TheVariants.{Text, Json}
 -- the script, behind the job text of the input, is played, and this is printed: the winners, the marker, the outcome and the visible files
 abbrev pub LeadsTo : (input script : List ℕ) → Outcome → Type 0
 LeadsTo input script end = PrintsPlay within (job_line input ++ 10 ∷ script) (outcome_text end)
-
--- each script leads to the end that it stands beside
-abbrev pub LeadToEnds : List ℕ → List End → Type 0
-LeadToEnds input ends = AllByRecursion (λ e. LeadsTo input e.script e.end) ends
 
 -- what `seq` prints of a job text; nothing where the job refuses a line of a split
 abbrev pub AreFilesOf : List ℕ → Option (List ℕ) → Type 0
@@ -40,12 +34,10 @@ told_text Json s goal found = ends_json s goal found
 pub record TellsEnds (input : List ℕ) (form : Form) (goal : Option (List Expectation)) (found : Found) (text : List ℕ) : Type 0 where
   pub sequential : Sequential
   pub of_job : IsSequentialOf input sequential
-  pub lead : LeadToEnds input found.table.ends
   pub is : text ≡ told_text form sequential goal found
 
--- why nothing is told: the first bad key of the job text. An allocation failure may come at any input, and so may that a script led to another end.
+-- why nothing is told: the first bad key of the job text. An allocation failure may come at any input.
 abbrev pub TellFails : List ℕ → SimFault → Type 0
 TellFails input fault.NoMemory = Unit {0}
-TellFails input fault.JournalMismatch = Unit {0}
 TellFails input (fault.Job e) = IsBadPlayJob input e
 TellFails input _ = ⊥

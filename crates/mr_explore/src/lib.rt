@@ -32,8 +32,7 @@
 //! - **The first run is the one that `play` plays**: what it computes is what the job text says, and it is as far as
 //!   the script. Where no master was started, the first one's start comes next (`IsRunOf`). An input has one such run
 //!   at most, and nothing is printed of an input that is refused (`explored_or_refused`).
-//! - **Each script of the table leads to the end beside it**, by `play`'s own definition (`check_scripts`: `PrintsPlay` of the job text and the script). `explored_text`
-//!   plays each before it prints any.
+//! - That each script that is printed leads to the end beside it is a law of mr_explore_repeated.
 //!
 //! Only tested: that it succeeds where there is memory, and what `Watch` is told.
 #![tactic(auto)]
@@ -45,7 +44,6 @@ mod explored;
 mod faults_at;
 mod going;
 mod laws;
-mod leading;
 mod output;
 mod sequential;
 mod tried;
@@ -59,7 +57,6 @@ pub use explored::Explored;
 pub use laws::{
     asking_shows_nothing, explored_or_refused, one_explored_text, outcomes_are_printed,
 };
-pub use leading::{check_script, check_scripts};
 pub use mr_explore_ends::{Outcome, Row, Table, best_of, read_goal};
 pub use mr_explore_faults::Fault;
 pub use output::{explore_output, explored_text};

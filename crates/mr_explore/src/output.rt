@@ -8,7 +8,6 @@ ghost use Rattle.mr_explore.specs.Exploring.{found_of};
 
 use crate::asked::{Asked, Form};
 use crate::exploration::Exploration;
-use crate::leading::check_scripts;
 use crate::sequential::sequential_of;
 use crate::watch::Watch;
 use mr_explore_ends::{Found, Sequential, put_ends, put_found};
@@ -22,7 +21,7 @@ use std::alloc::{AllocError, Global};
 ///
 /// The first bad key of the job text is told (`Job`), else the first bad line of the script (`BadCommand`). Else
 /// `Full` is told where the script, the start of the first master, or one of these runs would pass a limit of the
-/// world. `NoMemory` may come at any input. `JournalMismatch` would come where a script led to another end.
+/// world. `NoMemory` may come at any input. `JournalMismatch` would come where the events of a run could not happen once more.
 pub fn explore_output<W: Watch>(
     alloc: Global,
     input: &[u8],
@@ -38,9 +37,9 @@ pub fn explore_output<W: Watch>(
     explored_text(alloc, input, &exploration, asked.goal, asked.form)
 }
 
-/// What is printed of an exploration of an input: all ends, or the best that meets a goal. Each script of its table was played before, and led to its end.
+/// What is printed of an exploration of an input: all ends, or the best that meets a goal.
 ///
-/// The first bad key of the job text is told (`Job`). It fails by an allocation failure, or where `check_scripts` does.
+/// The first bad key of the job text is told (`Job`). `NoMemory` may come at any input.
 pub fn explored_text(
     alloc: Global,
     input: &[u8],
@@ -53,7 +52,6 @@ pub fn explored_text(
     ensures fault { IfErr result (TellFails input.now) }
 {
     let table = exploration.table();
-    check_scripts(alloc, input, table)?;
     let (sequential, idle_keys) = sequential_of(alloc, input)?;
     let found = Found {
         table,

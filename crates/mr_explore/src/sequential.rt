@@ -6,8 +6,8 @@ ghost use Rattle.mr_play.specs.Text.{IsBadPlayJob, job_line};
 ghost use Rattle.mr_explore.specs.Ends.{AreFilesOf, IsSequentialOf};
 ghost use Rattle.mr_explore.specs.Checks.{IsUnsaid};
 
-use crate::leading::job_line_of;
 use mr_explore_ends::Sequential;
+use mr_script::split_once;
 use mr_sim_commands::{IdleKeys, SimFault, read_job_text, seq_output};
 use std::alloc::Global;
 
@@ -22,6 +22,16 @@ pub fn sequential_of(alloc: Global, input: &[u8]) -> Result<(Sequential, IdleKey
     let submission = read_job_text(alloc, job)?;
     let files = files_of(alloc, job)?;
     Ok((Sequential::new(files), submission.idle_keys))
+}
+
+// The job text of an input: its first line.
+fn job_line_of(input: &[u8]) -> &[u8]
+    ensures { result.now ≡ job_line input.now }
+{
+    match split_once(input, b'\n') {
+        Some((job, _)) => job,
+        None => input,
+    }
 }
 
 // What `seq` prints of a job text; nothing where the job refuses a line of a split.

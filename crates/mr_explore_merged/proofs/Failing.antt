@@ -6,7 +6,7 @@ use Rattle.mr_sim_commands.specs.declared.fault.SimFault.TheVariants as fault
 use Rattle.mr_play.specs.Text.{job_line}
 use Rattle.mr_explore_search.specs.Runs.{PassesLimit}
 use Rattle.mr_explore_least.specs.Table.{Table}
-use Rattle.mr_explore.specs.Checks.{IsUnchecked, IsUnsaid}
+use Rattle.mr_explore.specs.Checks.{IsUnsaid}
 use Rattle.mr_explore.specs.Exploring.{ExploreFails}
 use Rattle.mr_explore.specs.Faults.{most_events}
 use Rattle.mr_explore.specs.Runs.{explored}
@@ -54,21 +54,6 @@ more_failed n most input (Err f) le h = more_fail n most input f le h
 
 -- ---- what was found is not told
 
-unchecked_fails : (most : ℕ) (input : List ℕ) (f : SimFault) → IsUnchecked f → MergedFails most input f
-unchecked_fails most input fault.NoMemory h = tt
-unchecked_fails most input fault.JournalMismatch h = tt
-unchecked_fails most input fault.Full h = absurd h
-unchecked_fails most input fault.Read h = absurd h
-unchecked_fails most input fault.Write h = absurd h
-unchecked_fails most input fault.TooLong h = absurd h
-unchecked_fails most input (fault.BadCommand n) h = absurd h
-unchecked_fails most input (fault.BadRecord n) h = absurd h
-unchecked_fails most input (fault.Job e) h = absurd h
-unchecked_fails most input fault.Refused h = absurd h
-unchecked_fails most input fault.JobFailed h = absurd h
-unchecked_fails most input fault.TurnsSpent h = absurd h
-unchecked_fails most input fault.Thread h = absurd h
-
 unsaid_fails : (most : ℕ) (input : List ℕ) (f : SimFault) → IsUnsaid (job_line input) f → MergedFails most input f
 unsaid_fails most input fault.NoMemory h = tt
 unsaid_fails most input (fault.Job e) h = h
@@ -89,11 +74,6 @@ pub begins_failed : {A : Type 0} (most : ℕ) (input : List ℕ) (f : SimFault) 
 begins_failed {A} most input f r h is =
     let z = err_from_is_err_and r is in
     subst (λ (y : Result A SimFault). IfErr y (MergedFails most input)) (sym z.1) (subst (MergedFails most input) (sym z.2) (begins_fails most input f h))
-
-pub unchecked_failed : {A : Type 0} (most : ℕ) (input : List ℕ) (f : SimFault) (r : Result A SimFault) → IsUnchecked f → IsErrAnd r (λ g. g ≡ f) → IfErr r (MergedFails most input)
-unchecked_failed {A} most input f r h is =
-    let z = err_from_is_err_and r is in
-    subst (λ (y : Result A SimFault). IfErr y (MergedFails most input)) (sym z.1) (subst (MergedFails most input) (sym z.2) (unchecked_fails most input f h))
 
 pub unsaid_failed : {A : Type 0} (most : ℕ) (input : List ℕ) (f : SimFault) (r : Result A SimFault) → IsUnsaid (job_line input) f → IsErrAnd r (λ g. g ≡ f) → IfErr r (MergedFails most input)
 unsaid_failed {A} most input f r h is =

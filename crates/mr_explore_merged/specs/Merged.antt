@@ -1,19 +1,17 @@
 -- What `explore --merge` finds of an input, and what it prints of that (our own profile). It is told of the set of all runs, not of how they are made.
 use Rattle.std.specs.Prelude.{◌≡◌, ◌≤◌, ◌<◌, ◌⊎◌, ℕ, true, false, List, Option}
-use Rattle.std.specs.List.{AllByRecursion}
 use Rattle.std.specs.Option.{option_map}
 use Rattle.mr_sim_commands.specs.declared.fault.SimFault.{SimFault}
 use Rattle.mr_sim_commands.specs.declared.fault.SimFault.TheVariants as fault
 use Rattle.mr_play.specs.mr_world.specs.Limits.{within}
 use Rattle.mr_play.specs.Text.{IsFullPlay, PlayFails}
 use Rattle.mr_script.specs.declared.expectation.Expectation.{Expectation}
-use Rattle.mr_script_writer.specs.Repeating.{repeating}
 use Rattle.mr_explore_search.specs.Runs.{PassesLimit}
 use Rattle.mr_explore_search.specs.Laws.{IsOneBy}
 use Rattle.mr_explore_ends.specs.Text.{Sequential}
 use Rattle.mr_explore.specs.declared.asked.Form.{Form}
 use Rattle.mr_explore.specs.declared.asked.Form.TheVariants.{Text, Json}
-use Rattle.mr_explore.specs.Ends.{IsSequentialOf, LeadsTo}
+use Rattle.mr_explore.specs.Ends.{IsSequentialOf}
 use Rattle.mr_explore.specs.Exploring.{is_sought}
 use Rattle.mr_explore.specs.Faults.{most_events}
 use Rattle.mr_explore.specs.Runs.{CannotStart, Exploring, IsRunOf, explored}
@@ -69,16 +67,11 @@ told_text Json s goal faults t = least_json s goal faults t
 abbrev pub sought : Question → Option (List Expectation)
 sought asked = option_map (λ g. g.now) asked.goal
 
--- each script leads to the end that it stands beside
-abbrev pub LeadToEnds : (input : List ℕ) → List Arrival → Type 0
-LeadToEnds input rows = AllByRecursion (λ r. LeadsTo input (repeating r.events) r.end) rows
-
 -- This is printed of all runs of the input.
 pub record PrintsMerged (asked : Question) (input text : List ℕ) : Type 0 where
   pub faults : ℕ
   pub table : Table
   pub found : IsFoundOf asked.faults (sought asked) input faults table
-  pub lead : LeadToEnds input table.rows
   pub sequential : Sequential
   pub of_job : IsSequentialOf input sequential
   pub is : text ≡ told_text asked.form sequential (sought asked) faults table
@@ -95,7 +88,7 @@ pub record WouldPass (most : ℕ) (input : List ℕ) : Type 0 where
 abbrev pub IsFullMerged : (most : ℕ) → List ℕ → Type 0
 IsFullMerged most input = IsFullPlay within input ⊎ (CannotStart input ⊎ WouldPass most input)
 
--- Why nothing is printed: as of `play`, or a limit is passed. An allocation failure may come at any input, and so may that a search did not end, or that a script led to another end.
+-- Why nothing is printed: as of `play`, or a limit is passed. An allocation failure may come at any input, and so may that a search did not end.
 abbrev pub MergedFails : (most : ℕ) → List ℕ → SimFault → Type 0
 MergedFails most input fault.JournalMismatch = Unit {0}
 MergedFails most input fault.Full = IsFullMerged most input

@@ -1,7 +1,8 @@
 //! Laws of the definitions: these functions do nothing.
-ghost use Rattle.mr_explore_merged.specs.Laws.{MergedOrRefused, OneTextIsPrinted};
+ghost use Rattle.mr_explore_merged.specs.Laws.{MergedOrRefused, MergedScriptsLead, OneTextIsPrinted};
 
 use mr_explore::explored_or_refused;
+use mr_explore_repeated::scripts_lead_to_their_ends;
 use mr_sim_commands::one_seq_text;
 
 /// Of an input of which no run comes near a limit one text is printed at most, by however many threads.
@@ -16,3 +17,10 @@ pub fn one_merged_text()
 pub fn merged_or_refused()
     ensures { MergedOrRefused }
 {}
+
+/// `play` of each script that is printed, behind the job text of its input, comes to the end beside it.
+pub fn merged_scripts_lead()
+    ensures { MergedScriptsLead }
+{
+    scripts_lead_to_their_ends();
+}

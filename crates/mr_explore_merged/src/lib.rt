@@ -8,7 +8,7 @@
 //!   for byte. Each row is of a run of the definition with at most as many faults as are asked for. Each such run of which no look-ahead passes a limit has a
 //!   row with its end, and does not come before that row's run. The rows rise.
 //! - **Where an end is sought** the text tells the least number of faults with which it is met (`AreEnough`).
-//! - **Each script leads to the end beside it**, by `play`'s own definition (`LeadToEnds`).
+//! - **Each script leads to the end beside it**, by `play`'s own definition (`merged_scripts_lead`).
 //! - **Threads change nothing** (`merged_by_threads`): its contract is that of `merged_output`, word for word. Of an input of which no run comes near a limit
 //!   one text is printed (`one_merged_text`).
 //! - Nothing is printed of an input that is refused, and where something is printed the script and the first master's start pass no limit
@@ -38,8 +38,7 @@
 //! - **`proofs/Found` is of an exploration's runs.** `each_end_is_found` of mr_explore_places does not serve here: near a limit a run may not go on as one
 //!   that is like it does. `no_careful_end_is_lost` of mr_explore_likeness speaks of the runs of which no look ahead passes a limit.
 //! - **Runs with the same events come to one end** (`proofs/Configs`), since a run keeps its config. That is the premise of joined tables.
-//! - **`JournalMismatch` has no reason** in `MergedFails`. A script that is played leads to the end beside it, or it is told. That of a run's script it is never
-//!   told is a law of mr_explore_repeated, which is not used here.
+//! - **`JournalMismatch` has no reason** in `MergedFails`: it would be told of a search that did not end.
 #![tactic(auto)]
 
 mod finding;
@@ -50,6 +49,6 @@ mod run;
 mod searching;
 mod watching;
 
-pub use laws::{merged_or_refused, one_merged_text};
+pub use laws::{merged_or_refused, merged_scripts_lead, one_merged_text};
 pub use output::{merged_by_threads, merged_output};
 pub use question::Question;

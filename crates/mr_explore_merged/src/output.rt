@@ -1,20 +1,15 @@
 //! The output of `explore --merge`.
 
-ghost use Rattle.std.specs.Prelude.{◌≡◌, true, IfOk, IfErr, OnOk};
-ghost use Rattle.std.specs.List.{AllByRecursion};
+ghost use Rattle.std.specs.Prelude.{◌≡◌, true, IfOk, IfErr};
 ghost use Rattle.std.specs.Option.{option_map};
-ghost use Rattle.mr_explore.specs.Checks.{IsUnchecked};
-ghost use Rattle.mr_explore.specs.Ends.{LeadsTo};
-ghost use Rattle.mr_script_writer.specs.Repeating.{repeating};
-ghost use Rattle.mr_explore_merged.specs.Merged.{IsFoundOf, LeadToEnds, MergedFails, PrintsMerged, sought, told_text};
+ghost use Rattle.mr_explore_merged.specs.Merged.{IsFoundOf, MergedFails, PrintsMerged, sought, told_text};
 
 use crate::finding::{LeastFound, found, found_by_threads};
 use crate::question::Question;
-use mr_explore::{Form, Watch, check_script, sequential_of};
+use mr_explore::{Form, Watch, sequential_of};
 use mr_explore_ends::Sequential;
-use mr_explore_least::{Least, LeastTable, put_least, put_least_lines};
+use mr_explore_least::{put_least, put_least_lines};
 use mr_script::Expectation;
-use mr_script_writer::put_script;
 use mr_sim_commands::{Printed, SimFault};
 use std::alloc::{AllocError, Global};
 use std::thread::Threads;
@@ -24,7 +19,7 @@ use std::thread::Threads;
 ///
 /// The first bad key of the job text is told (`Job`), else the first bad line of the script (`BadCommand`). Else `Full` is told where the script,
 /// the start of the first master, or one of these runs would pass a limit of the world. `NoMemory` may come at any input. `JournalMismatch` would
-/// come where a script led to another end.
+/// come where a search did not end.
 pub fn merged_output<W: Watch>(
     alloc: Global,
     input: &[u8],
@@ -58,7 +53,7 @@ pub fn merged_by_threads<R: Threads + Sync, W: Watch>(
     merged_text(alloc, input, &least, asked)
 }
 
-// What is printed of what was found. Each script was played before, and led to its end.
+// What is printed of what was found.
 fn merged_text(
     alloc: Global,
     input: &[u8],
@@ -70,38 +65,9 @@ fn merged_text(
     ensures met { IfOk result (λ v. v.met ≡ true) }
     ensures fault { IfErr result (MergedFails asked.now.faults input.now) }
 {
-    check_table(alloc, input, &found.table)?;
     let (sequential, idle_keys) = sequential_of(alloc, input)?;
     let text = told(alloc, found, &sequential, asked.goal, asked.form)?;
     Ok(Printed::plain(alloc, text, idle_keys))
-}
-
-// Each script leads to the end that it stands beside.
-fn check_table(alloc: Global, input: &[u8], table: &LeastTable) -> Result<(), SimFault>
-    ensures lead { OnOk result (LeadToEnds input.now table.now.rows) }
-    ensures fault { IfErr result IsUnchecked }
-{
-    check_rows(alloc, input, table.rows())
-}
-
-// The same, of rows.
-fn check_rows(alloc: Global, input: &[u8], rows: &[Least]) -> Result<(), SimFault>
-    ensures lead { OnOk result (AllByRecursion (λ row. LeadsTo input.now (repeating row.events.items) row.end) rows.now) }
-    ensures fault { IfErr result IsUnchecked }
-{
-    for row in rows {
-        check_row(alloc, input, row)?;
-    }
-    Ok(())
-}
-
-fn check_row(alloc: Global, input: &[u8], row: &Least) -> Result<(), SimFault>
-    ensures leads { OnOk result (LeadsTo input.now (repeating row.now.events.items) row.now.end) }
-    ensures fault { IfErr result IsUnchecked }
-{
-    let mut script = Vec::new(alloc);
-    put_script(&mut script, &row.events)?;
-    check_script(alloc, input, &script, &row.end)
 }
 
 // What was found, in this form.

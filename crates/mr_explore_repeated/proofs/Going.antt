@@ -1,5 +1,5 @@
 -- All events of a run can be repeated: those of the script, of what a run makes by itself, and of its faults.
-use Rattle.std.proofs.Common.{◌≡◌, ◌<◌, ◌^◌, inl, inr, ℕ, suc, Bool, true, false, cond, ◌&&◌, not, nat_lt, List, [], ◌++◌, length, remove, Option, Some, None, is_none, option_map, option_to_list, refl, sym, ap, subst, ◌∙◌, arith}
+use Rattle.std.proofs.Common.{◌≡◌, ◌<◌, ◌^◌, inl, inr, ℕ, suc, Bool, true, false, cond, ◌&&◌, not, nat_lt, List, [], ◌++◌, length, remove, Option, Some, None, is_none, option_map, option_to_list, refl, sym, ap, subst, ◌∙◌, append-nil, arith}
 use Rattle.mr_ids.specs.declared.id.TheConstants.{MAX_APP_ATTEMPTS}
 use Rattle.mr_world_events.specs.declared.event.Weather.TheVariants.{Calm}
 use Rattle.mr_world_events.specs.declared.why.Why.{Why}
@@ -8,6 +8,7 @@ use Rattle.mr_world_model.specs.World.{World, Event, Start, Crash, Duty, LaunchO
 use Rattle.mr_world_model.specs.Effect.{not_now}
 use Rattle.mr_world_model.specs.Claims.{Limits}
 use Rattle.mr_world_model.specs.Sequential.{Job}
+use Rattle.mr_script_writer.specs.Repeating.{repeating}
 use Rattle.mr_play.specs.mr_world.specs.Limits.{within}
 use Rattle.mr_play.specs.mr_world.specs.Readings.{unflushed_in}
 use Rattle.mr_sim_commands.specs.declared.job.submission.Submission.{Submission}
@@ -252,7 +253,7 @@ pub scripts_lead_to_their_ends_law : OutcomesArePrinted → ScriptsLeadToTheirEn
 scripts_lead_to_their_ends_law printed input most faults k deep s (first, run, one) =
     let p = run.left.prints in
     let h = runs_are_ours input most faults k deep first s run one in
-    let again = runs_are_repeated_law input p.job s.played.events p.said h.repeats in
+    let again = runs_are_repeated_law input (repeating s.played.events) p.job s.played.events p.said h.repeats ([], sym (append-nil (repeating s.played.events))) in
     let text : world_text (config_of p.job) (world_of (ours p.job s)) ≡ outcome_text (outcome_of s.config (world_of s)) =
     ap (λ (x : Exploring). world_text x.config (world_of x)) (sym (same p.job s h)) ∙ sym (printed s.config (world_of s)) in
     subst (PrintsPlay within _) text again.prints

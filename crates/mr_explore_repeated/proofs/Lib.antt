@@ -1,3 +1,4 @@
 pub mod Going
 mod Kept
+pub mod Printed
 mod Short

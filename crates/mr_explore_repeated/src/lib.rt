@@ -5,16 +5,25 @@
 //! `scripts_lead_to_their_ends`: of each run that comes of an input by faults, however many, deep or not, `play` of its script behind the job text prints the
 //! end to which it came (`LeadsTo` of mr_explore).
 //!
-//! So where mr_explore plays the script of an end, `play` comes to no other end, and refuses nothing. There is no code in this crate.
+//! So each script that `explore` prints leads to the end beside it (`explored_scripts_lead`). There is no code in this crate.
 #![tactic(auto)]
 
-ghost use Rattle.mr_explore_repeated.specs.Leading.{ScriptsLeadToTheirEnds};
+ghost use Rattle.mr_explore_repeated.specs.Leading.{ExploredScriptsLead, ScriptsLeadToTheirEnds};
 
-use mr_explore::outcomes_are_printed;
+use mr_explore::{Explored, outcomes_are_printed};
+use mr_explore_search::runs_are_all_that_depart;
 
 /// `play` of the script of a run, behind the job text of its input, comes to the run's end.
 pub fn scripts_lead_to_their_ends()
     ensures { ScriptsLeadToTheirEnds }
 {
     outcomes_are_printed();
+}
+
+/// `play` of each script that `explore` prints, behind the job text of its input, comes to the end beside it.
+pub fn explored_scripts_lead()
+    ensures { ExploredScriptsLead }
+{
+    scripts_lead_to_their_ends();
+    runs_are_all_that_depart::<Explored>();
 }

@@ -5,7 +5,7 @@ use Rattle.mr_packet.specs.declared.packet.ContainerId.{ContainerId}
 use Rattle.mr_script.specs.Lines.{after, before, lines_of}
 use Rattle.mr_script.specs.Script.{AreCommands}
 use Rattle.mr_script_writer.specs.Laws.{CanBeSaid, numbered}
-use Rattle.mr_script_writer.specs.Repeating.{repeating, said_by}
+use Rattle.mr_script_writer.specs.Repeating.{said_by}
 use Rattle.mr_script_writer.proofs.Reading.{scripts_are_read_back_law}
 use Rattle.mr_world_model.specs.Packets.{Config}
 use Rattle.mr_world_model.specs.World.{Event, Start, Crash, Duty, LaunchOn, Deliver, ContainerStep, Compute, Die, NodeRestart, Expire}
@@ -20,7 +20,7 @@ use Rattle.mr_play.specs.Played.{Played, begun, made, obeyed, played, stepped_by
 use Rattle.mr_play.specs.Text.{config_of, job_as, job_line, played_of, script_by, script_lines}
 use Rattle.mr_play.specs.WorldText.{world_text}
 use Rattle.mr_play_repeated.proofs.Worded.{runs_can_be_said_law}
-use Rattle.mr_play_repeated.specs.Repeated.{AreRepeatable, IsRepeatable, RunsAreRepeated, script_of}
+use Rattle.mr_play_repeated.specs.Repeated.{AreRepeatable, IsRepeatable, IsScriptOf, RunsAreRepeated, behind_job}
 
 -- ---- the text
 
@@ -52,11 +52,11 @@ module _ (sub : Submission) where
 
   -- ---- what is read
 
-  read : (input : List ℕ) (es : List Event) → CanBeSaid sub.id es → AreCommands sub.id 2 (script_lines (script_of input es)) (numbered 2 es)
-  read input es said =
-      let back = scripts_are_read_back_law sub.id 2 es [] said in
-      let all : AreCommands sub.id 2 (lines_of (repeating es)) (numbered 2 es) = subst (λ z. AreCommands sub.id 2 (lines_of z) (numbered 2 es)) (append-nil (repeating es)) back in
-      subst (λ o. AreCommands sub.id 2 (lines_of (script_by o)) (numbered 2 es)) (sym (script_again input (repeating es))) all
+  read : (input script : List ℕ) (es : List Event) → CanBeSaid sub.id es → IsScriptOf es script → AreCommands sub.id 2 (script_lines (behind_job input script)) (numbered 2 es)
+  read input script es said (notes, is) =
+      let all : AreCommands sub.id 2 (lines_of script) (numbered 2 es) =
+      subst (λ z. AreCommands sub.id 2 (lines_of z) (numbered 2 es)) (sym is) (scripts_are_read_back_law sub.id 2 es notes said) in
+      subst (λ o. AreCommands sub.id 2 (lines_of (script_by o)) (numbered 2 es)) (sym (script_again input script)) all
 
   -- ---- one event
 
@@ -108,15 +108,15 @@ module _ (sub : Submission) where
 
 pub runs_are_repeated_law : RunsAreRepeated
 unfolding played_of
-runs_are_repeated_law input sub es is h =
+runs_are_repeated_law input script sub es is h repeats =
     let all = comes_to sub 2 es begun h in
     let whole : all.left.events ≡ es = all.events in
     record {
       prints = record {
         job = sub;
-        said = ap submission_of (job_again input (repeating es)) ∙ is;
+        said = ap submission_of (job_again input script) ∙ is;
         commands = numbered 2 es;
-        read = read sub input es (runs_can_be_said_law (job_line input) sub es is h);
+        read = read sub input script es (runs_can_be_said_law (job_line input) sub es is h) repeats;
         left = all.left;
         comes = all.comes;
         is = λ i. sym all.told i ++ world_text (config_of sub) (run_of (config_of sub) (sym whole i));

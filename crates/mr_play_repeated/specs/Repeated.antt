@@ -4,7 +4,7 @@ use Rattle.std.specs.List.{AllByRecursion}
 use Rattle.mr_script.specs.declared.command.Command.{Command}
 use Rattle.mr_script.specs.Script.{AreCommands}
 use Rattle.mr_script_writer.specs.Laws.{CanBeSaid}
-use Rattle.mr_script_writer.specs.Repeating.{repeating}
+use Rattle.mr_script_writer.specs.Repeating.{commented, repeating}
 use Rattle.mr_world_model.specs.World.{World, Event, Start, Crash, Compute}
 use Rattle.mr_world_model.specs.Sequential.{IsFaithful, most_output}
 use Rattle.mr_world.specs.Applying.{CanHappen}
@@ -43,22 +43,26 @@ AreRepeatable job before (e ∷ es) = IsRepeatable job before e × AreRepeatable
 
 -- ---- how they are repeated
 
--- the script of these events, behind the job text of an input
-abbrev pub script_of : (input : List ℕ) → List Event → List ℕ
-script_of input es = job_line input ++ 10 ∷ repeating es
+-- a script of these events: a line for each, and maybe a text behind them as comments
+abbrev pub IsScriptOf : List Event → List ℕ → Type 0
+IsScriptOf es script = (notes : List ℕ) × (script ≡ repeating es ++ commented notes)
+
+-- a script behind the job text of an input
+abbrev pub behind_job : (input script : List ℕ) → List ℕ
+behind_job input script = job_line input ++ 10 ∷ script
 
 -- what `play` prints of a run in which no line was refused
 abbrev pub text_of : (job : Submission) → List Event → List ℕ
 text_of job es = world_text (config_of job) (run_of (config_of job) es)
 
 -- `play` takes just these events of it, and prints what came of them, and nothing else
-pub record IsPlayedAgain (input : List ℕ) (job : Submission) (es : List Event) : Type 0 where
-  pub prints : PrintsPlay within (script_of input es) (text_of job es)
-  pub journal : printed_journal within (script_of input es) (text_of job es) prints ≡ record { config = config_of job; events = es }
+pub record IsPlayedAgain (input script : List ℕ) (job : Submission) (es : List Event) : Type 0 where
+  pub prints : PrintsPlay within (behind_job input script) (text_of job es)
+  pub journal : printed_journal within (behind_job input script) (text_of job es) prints ≡ record { config = config_of job; events = es }
 
 -- so it is of each such run
 abbrev pub RunsAreRepeated : Type 0
-RunsAreRepeated = (input : List ℕ) (job : Submission) (es : List Event) → submission_of (job_line input) ≡ Ok job → AreRepeatable job [] es → IsPlayedAgain input job es
+RunsAreRepeated = (input script : List ℕ) (job : Submission) (es : List Event) → submission_of (job_line input) ≡ Ok job → AreRepeatable job [] es → IsScriptOf es script → IsPlayedAgain input script job es
 
 -- a script has words for its events: each number in them is in its range
 abbrev pub RunsCanBeSaid : Type 0

@@ -3,8 +3,8 @@
 //! # What is proved
 //!
 //! - **`runs_are_repeated`**: where each event of a run was permitted and passed no limit when it came, the bytes that were handed in are those that
-//!   `compute` hands in, and no start and no crash keeps 2 ^ 64 bytes or more, `play` of the run's script takes just these events, refuses none, and prints
-//!   what came of them and nothing else. A script has words for the events (`runs_can_be_said`).
+//!   `compute` hands in, and no start and no crash keeps 2 ^ 64 bytes or more, `play` of the run's script, comments behind it or not, takes just these events,
+//!   refuses none, and prints what came of them and nothing else. A script has words for the events (`runs_can_be_said`).
 //! - Such are the events to which a script leads, by its own and by its calms (`scripts_are_repeatable`).
 //! - Such are those of a journal, where the bytes are what the job's functions give, and are not too many (`faithful_runs_are_repeatable`).
 //!

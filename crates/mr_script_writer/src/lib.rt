@@ -10,7 +10,7 @@
 //! - `put_comments` writes exactly the lines of a text as comments (`commented`).
 //! - Such a script, with such comments behind it, is read by mr_script as exactly these commands, where a script can say them (`scripts_are_read_back`).
 //!
-//! Only tested: that `play` of such a script comes to the same end.
+//! That `play` of such a script comes to the same end is a law of mr_play_repeated.
 #![tactic(auto)]
 
 mod comment;

@@ -27,7 +27,7 @@ Writes how many runs there are, `not all` where some were not made, would pass a
 them, those that need fewer faults first: how many runs have it, how many of these were ended since they make no progress (all
 who live only ask their masters, and hear nothing, or no), what `play` prints of it, whether the files that a reader sees are
 those of `seq`, and of the scripts that lead to it with the fewest faults the first shortest one. Behind the job text it is an
-input of `play`: each script was played before it is shown.
+input of `play`, which comes to the end beside it.
 
 With --merge a run is left out that goes on as an earlier one does: of fewer faults, or of as many and with the script that
 comes first, which is the shorter one, or of two as long the lesser. Writes how many ends there are, `not of all runs` where one

@@ -8,7 +8,8 @@ use Rattle.mr_sim_commands.specs.seq.Text.{PrintsSeq}
 use Rattle.mr_play.specs.declared.shown.Shown.{Shown}
 use Rattle.mr_play.specs.Faithful.{IsMarkedText}
 use Rattle.mr_play.specs.Shown.{IsHistory}
-use Rattle.mr_play.specs.Text.{job_as}
+use Rattle.mr_play.specs.Text.{job_as, job_line}
+use Rattle.mr_play_repeated.specs.Repeated.{IsPlayedAgain}
 use Rattle.mr_play.specs.WorldText.{world_text}
 use Rattle.mr_trace.specs.Happened.{by_threads}
 use Rattle.mr_trace.specs.Trace.{trace_text}
@@ -46,6 +47,15 @@ pub record TellsFilesOfSeq (input : List ℕ) (j : Journal) : Type 0 where
   pub prints : PrintsSeq input files
   pub is : IsMarkedText (text_of_run j) files
 
+-- Whatever text says the job on its first line: a script that stands behind that line is played to just the events of the run, and `play` prints what came of them, and nothing else.
+abbrev pub IsPlayedAgainBehind : Submission → Journal → List ℕ → Type 0
+IsPlayedAgainBehind job j script = (other : List ℕ) → submission_of (job_line other) ≡ Ok job → IsPlayedAgain other script job j.events
+
+-- a script repeats the run
+abbrev pub Repeats : Seen → Submission → Journal → List ℕ → Type 0
+Repeats seen.Script job j text = IsPlayedAgainBehind job j text
+Repeats _ job j text = Unit {0}
+
 -- the text shows a run of the job that the job text says
 pub record ShowsRun (seen : Seen) (input text : List ℕ) : Type 0 where
   pub job : Submission
@@ -56,4 +66,5 @@ pub record ShowsRun (seen : Seen) (input text : List ℕ) : Type 0 where
   pub by : List ℕ
   pub noted : length by ≡ length run.events
   pub tells : Tells seen by run text
+  pub repeats : Repeats seen job run text
   pub files : IsMarked (world_in run) → TellsFilesOfSeq input run

@@ -12,11 +12,12 @@
 //! |---|---|
 //! | `Shown` | the text that `play` prints of the run. Where they are asked for, exactly the trace of that run stands before it, with the thread whose seat was noted for each event, and exactly the history behind it |
 //! | `Json` | exactly the lines of the run, with the thread whose seat was noted for each event |
-//! | `Script` | exactly the commands of the run's events, and then the text of `play`, as comments |
+//! | `Script` | exactly the commands of the run's events, and then the text of `play`, as comments. Behind whatever text says the job on its first line `play` takes just these events, and prints that text and nothing else |
 //!
 //! In no clause: what a picture says; that there is a run.
 #![tactic(auto)]
 
+mod sayable;
 mod seen;
 
 pub use seen::{Seen, threads_seen};

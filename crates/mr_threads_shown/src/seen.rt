@@ -1,12 +1,14 @@
 //! What is shown of a run that threads made.
-ghost use Rattle.std.specs.Prelude.{◌≡◌, ◌++◌, [], true, false, IfOk, IfErr};
+ghost use Rattle.std.specs.Prelude.{◌≡◌, ◌++◌, [], true, false, IfOk, IfErr, OnOk};
 ghost use Rattle.mr_sim_commands.specs.declared.fault.SimFault.TheVariants.{NoMemory};
 ghost use Rattle.mr_threads.specs.Text.{ShownFails};
 ghost use Rattle.mr_threads_shown.specs.Text.{ShowsRun, Tells, TellsRun, text_of_run};
+ghost use Rattle.mr_threads_shown.specs.inner.{CanBeSaid, IsUnshown, MayRepeat};
 ghost use Rattle.mr_script_writer.specs.Repeating.{commented, repeating};
 ghost use Rattle.mr_trace.specs.Happened.{by_threads};
 ghost use Rattle.mr_trace.specs.Trace.{trace_text};
 
+use crate::sayable::are_sayable;
 use mr_play::mr_world::World;
 use mr_play::{Shown, print_histories, print_world};
 use mr_script_writer::{put_comments, put_script};
@@ -35,7 +37,7 @@ pub enum Seen {
 }
 
 /// What `threads` shows of the run that happened, whether the job succeeded or failed. The faults are those of `threads_output`, without `JobFailed`.
-#[tactic(auto, using(crate::proofs::Files::shows_run))]
+#[tactic(auto, using(crate::proofs::Files::shows_run, crate::proofs::Files::unshown))]
 pub fn threads_seen<H: AllocGlobal + Clock + Threads + Wait + Sync>(
     rt: &H,
     input: &[u8],
@@ -55,7 +57,8 @@ pub fn threads_seen<H: AllocGlobal + Clock + Threads + Wait + Sync>(
 // What is shown of a world's run.
 fn seen_of(alloc: Global, world: &World, by: &[u32], seen: Seen) -> Result<Vec<u8>, SimFault>
     ensures text { IfOk result (λ v. Tells seen by.now world.now v.items) }
-    ensures memory { IfErr result (λ e. e ≡ NoMemory) }
+    ensures repeats { OnOk result (MayRepeat seen world.now) }
+    ensures fault { IfErr result IsUnshown }
 {
     match seen {
         Seen::Shown(shown) => shown_of(alloc, world, by, shown),
@@ -91,11 +94,17 @@ fn shown_of(alloc: Global, world: &World, by: &[u32], shown: Shown) -> Result<Ve
     Ok(text)
 }
 
-// The script of a world's run, and what `play` prints of it, as comments.
+// The script of a world's run, and what `play` prints of it, as comments. No thread hands in a result that is too long.
+#[tactic(auto, using(crate::proofs::Files::can_be_said))]
 fn scripted(alloc: Global, world: &World) -> Result<Vec<u8>, SimFault>
     ensures text { IfOk result (λ v. v.items ≡ repeating world.now.events ++ commented (text_of_run world.now)) }
-    ensures memory { IfErr result (λ e. e ≡ NoMemory) }
+    ensures said { OnOk result (CanBeSaid world.now) }
+    ensures fault { IfErr result IsUnshown }
 {
+    world.repeats();
+    if !are_sayable(world.journal()) {
+        return Err(SimFault::JournalMismatch);
+    }
     let mut ending = Vec::new(alloc);
     print_world(&mut ending, world)?;
     let mut text = Vec::new(alloc);
