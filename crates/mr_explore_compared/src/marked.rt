@@ -33,11 +33,6 @@ impl MarkedRun for Compared {
         is_sooner(self.run().world().journal(), other.run().world().journal())
     }
 
-    // How many events its script has.
-    fn stage(&self) -> u64 {
-        self.run().world().journal().len() as u64
-    }
-
     fn mark(&self, _alloc: Global, owed: &[Fault]) -> Result<u64, WalkFault> {
         mark(self.run(), owed)
     }

@@ -21,8 +21,8 @@
 //!
 //! - **A run is left out** where another one was made that is like it and earlier: it has fewer faults, or as many, and its script comes before
 //!   (mr_explore_compared, mr_explore_places).
-//! - **What is kept**: 4,096 rows of four places from which something may depart, and 512 rows of four of runs that depart no more, where their script has
-//!   a multiple of 64 events, by several threads as many times more often. Other numbers change how long it takes, and nothing else.
+//! - **What is kept**: 4,096 rows of four places of runs that may have one more fault. Other numbers change how long it takes, and nothing else. Runs that
+//!   have as many as they may are looked up among these and not kept: when 2,048 of them were, the search made a fifth fewer events and took longer.
 //! - **A place holds a whole run.** The number of rows does not look at how large that is: behind a script that starts 1,000 masters a search by one fault
 //!   took 6.4 GB.
 //! - **A goal** is sought by 0 faults, then by 1, and so on. A job with one split has 1, 1,148 and 847,413 runs with at most 0, 1 and 2 faults, so the

@@ -100,10 +100,6 @@ impl MarkedRun for MergedRun {
     }
 
     // How many events its script has.
-    fn stage(&self) -> u64 {
-        self.run.stage()
-    }
-
     fn mark(&self, alloc: Global, owed: &[Fault]) -> Result<u64, WalkFault> {
         self.run.mark(alloc, owed)
     }

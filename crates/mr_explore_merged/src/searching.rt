@@ -17,14 +17,8 @@ use mr_sim_commands::SimFault;
 use std::alloc::Global;
 use std::thread::Threads;
 
-// In so many rows places are kept from which something may depart, by all threads together.
+// In so many rows places are kept, by all threads together.
 const ROWS: usize = 4096;
-
-// In so many rows those of runs that depart no more are kept: these are met soon, or never.
-const LAST_ROWS: usize = 512;
-
-// Runs that depart no more are kept where the number of events of their scripts is a multiple of this, by several threads as many times more often.
-const MEET: u64 = 64;
 
 // How far a search over runs with at most so many faults goes, and how many places it keeps.
 #[tactic(auto, unfolding(mr_explore::specs::Faults::most_events))]
@@ -36,8 +30,6 @@ fn bounds_for(faults: u32) -> Bounds
         faults,
         steps: MAX_EVENTS as u64,
         rows: ROWS,
-        last_rows: LAST_ROWS,
-        meet: MEET,
     }
 }
 

@@ -1,11 +1,9 @@
 -- What is kept in rows.
-use Rattle.std.proofs.Common.{◌≡◌, ◌<◌, ◌⊎◌, inl, inr, ℕ, zero, suc, Bool, true, false, List, [], ◌∷◌, ◌++◌, length, get_or, slice_set, sym, ap, subst, arith}
+use Rattle.std.proofs.Common.{◌≡◌, ◌<◌, ◌⊎◌, inl, inr, ℕ, zero, suc, List, [], ◌∷◌, ◌++◌, length, get_or, slice_set, sym, ap, subst, arith}
 use Rattle.mr_explore_alike.specs.Leaving.{Here}
-use Rattle.mr_explore_places.specs.Covering.{OneStandsFor}
-use Rattle.mr_explore_places.specs.Keeping.{IsHeld, IsInRow, IsKept, Visits, VisitsIn}
+use Rattle.mr_explore_places.specs.Keeping.{IsInRow, IsKept}
 use Rattle.mr_explore_places.specs.declared.stores.Kept.{Kept}
 use Rattle.mr_explore_places.specs.declared.stores.Row.{Row}
-use Rattle.mr_explore_places.specs.declared.stores.Stores.{Stores}
 
 pub none_more : {S F : Type 0} (rs : List (Row S F)) (r : Row S F) → r.kept.items ≡ [] → ((h : Here S F) → IsKept rs h → ⊥) → (h : Here S F) → IsKept (rs ++ r ∷ []) h → ⊥
 none_more [] r e f h (inl i) = subst (λ z. IsInRow z h) e i
@@ -37,37 +35,3 @@ keeps_at (y ∷ ys) (suc i) r n p l e f h (inr x) = by (keeps_at ys i r n p (ome
   by : (p ≡ h) ⊎ IsKept ys h → (p ≡ h) ⊎ IsKept (y ∷ ys) h
   by (inl q) = inl q
   by (inr q) = inr (inr q)
-
-module _ {S F : Type 0} (before : S → S → Bool) (like : S → List F → S → List F → Type 0) where
-  -- a place is looked up among those of the first store
-  pub visits_departing : (old new : Stores S F) (p : Here S F) (b : Bool) → new.last ≡ old.last → VisitsIn before like old.departing.items p b new.departing.items → Visits before like old p b new
-  visits_departing old new p true e v = λ x i. held x i where
-    by : (x : Here S F) → (p ≡ x) ⊎ IsKept old.departing.items x → (p ≡ x) ⊎ IsHeld old x
-    by x (inl q) = inl q
-    by x (inr q) = inr (inl q)
-
-    held : (x : Here S F) → IsHeld new x → (p ≡ x) ⊎ IsHeld old x
-    held x (inl i) = by x (v x i)
-    held x (inr i) = inr (inr (subst (λ z. IsKept z.items x) e i))
-  visits_departing old new p false e v = let one = v.0 in ((one.0, inl one.1, one.2), λ x i. held x i) where
-    held : (x : Here S F) → IsHeld new x → IsHeld old x
-    held x (inl i) = inl (v.1 x i)
-    held x (inr i) = inr (subst (λ z. IsKept z.items x) e i)
-
-  -- one that is kept in either store stands for it
-  pub one_departing : (s : Stores S F) (p : Here S F) → OneStandsFor before like (IsKept s.departing.items) p → OneStandsFor before like (IsHeld s) p
-  one_departing s p one = (one.0, inl one.1, one.2)
-
-  pub one_last : (s : Stores S F) (p : Here S F) → OneStandsFor before like (IsKept s.last.items) p → OneStandsFor before like (IsHeld s) p
-  one_last s p one = (one.0, inr one.1, one.2)
-
-  -- it is kept in the other store
-  pub keeps_last : (old new : Stores S F) (p : Here S F) → new.departing ≡ old.departing → ((x : Here S F) → IsKept new.last.items x → (p ≡ x) ⊎ IsKept old.last.items x) → Visits before like old p true new
-  keeps_last old new p e v = λ x i. held x i where
-    by : (x : Here S F) → (p ≡ x) ⊎ IsKept old.last.items x → (p ≡ x) ⊎ IsHeld old x
-    by x (inl q) = inl q
-    by x (inr q) = inr (inr q)
-
-    held : (x : Here S F) → IsHeld new x → (p ≡ x) ⊎ IsHeld old x
-    held x (inl i) = inr (inl (subst (λ z. IsKept z.items x) e i))
-    held x (inr i) = by x (v x i)

@@ -18,7 +18,7 @@ IsKept [] h = ⊥
 IsKept (r ∷ rs) h = IsInRow r.kept.items h ⊎ IsKept rs h
 
 abbrev pub IsHeld : {S F : Type 0} → Stores S F → Here S F → Type 0
-IsHeld s h = IsKept s.departing.items h ⊎ IsKept s.last.items h
+IsHeld s h = IsKept s.rows.items h
 
 -- all that are kept are among these
 abbrev pub AreMade : {S F : Type 0} → Stores S F → List (Here S F) → Type 0
@@ -26,10 +26,6 @@ AreMade {S} {F} s made = (h : Here S F) → IsHeld s h → In h made
 
 module _ {S F : Type 0} (before : S → S → Bool) (like : S → List F → S → List F → Type 0) where
   -- A place is looked up: it has to be made, and may be kept; or a kept one stands for it. No other one is kept that was not.
-  abbrev pub VisitsIn : List (Row S F) → Here S F → Bool → List (Row S F) → Type 0
-  VisitsIn old h true new = (x : Here S F) → IsKept new x → (h ≡ x) ⊎ IsKept old x
-  VisitsIn old h false new = OneStandsFor before like (IsKept old) h × ((x : Here S F) → IsKept new x → IsKept old x)
-
   abbrev pub Visits : Stores S F → Here S F → Bool → Stores S F → Type 0
   Visits old h true new = (x : Here S F) → IsHeld new x → (h ≡ x) ⊎ IsHeld old x
   Visits old h false new = OneStandsFor before like (IsHeld old) h × ((x : Here S F) → IsHeld new x → IsHeld old x)

@@ -7,10 +7,6 @@ pub struct Bounds {
     pub faults: u32,
     /// How many steps a run makes by itself at most, behind each departure. One that is not at its end then is a mismatch, though the definition calls that its end.
     pub steps: u64,
-    /// In how many rows places are kept from which something may depart.
+    /// In how many rows places are kept.
     pub rows: usize,
-    /// In how many rows places are kept of runs that depart no more.
-    pub last_rows: usize,
-    /// A run that departs no more is kept only where its stage is a multiple of this; nowhere if this is 0.
-    pub meet: u64,
 }

@@ -23,7 +23,7 @@
 //! # Example
 //!
 //! ```text
-//! let mut search = Search::new(alloc, run, Bounds { faults: 2, steps: 1000, rows: 4096, last_rows: 1024, meet: 16 })?;
+//! let mut search = Search::new(alloc, run, Bounds { faults: 2, steps: 1000, rows: 4096 })?;
 //! while let Some(ended) = search.next_run(alloc)? {
 //!     println!(rt; "{} faults", ended.faults)?;
 //! }

@@ -16,9 +16,6 @@ pub trait MarkedRun: AlikeRun {
     fn comes_before(&self, other: &Self) -> bool
         ensures { result ≡ Self.before self.now other.now };
 
-    /// How far it is: runs are looked up where they are at the same stage. Nothing is proved of it.
-    fn stage(&self) -> u64;
-
     /// Where to look for runs that are like it: a number that they have too. What earlier faults put off, and has not come, is `owed`.
     fn mark(&self, alloc: Global, owed: &[Self::Fault]) -> Result<u64, WalkFault>
         ensures fault { IfErr result IsNotFull };

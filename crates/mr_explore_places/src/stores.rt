@@ -4,7 +4,7 @@ ghost use Rattle.std.specs.Vec.{vec_len};
 ghost use Rattle.mr_explore_search.specs.Steps.{IsNotFull};
 ghost use Rattle.mr_explore_alike.specs.Leaving.{Here};
 ghost use Rattle.mr_explore_places.specs.Covering.{OneStandsFor, StandsFor};
-ghost use Rattle.mr_explore_places.specs.Keeping.{IsHeld, IsInRow, IsKept, Visits, VisitsIn};
+ghost use Rattle.mr_explore_places.specs.Keeping.{IsHeld, IsInRow, IsKept, Visits};
 
 use crate::bounds::Bounds;
 use crate::place::{Place, copy_of, stands_for};
@@ -15,11 +15,12 @@ use std::alloc::{AllocError, Global};
 // A row holds so many places at most.
 const ROW_ROOM: usize = 4;
 
-// A run that departs no more is looked up behind its last departure and at so many steps from there on: there it mostly meets one that departed elsewhere.
-const FIRST_STEPS: u64 = 3;
+// A run that may have no more faults is looked up behind its last departure and at so many steps from there on: there it mostly meets the run that it departed from, which goes
+// on as if nothing had happened.
+const FIRST_STEPS: u64 = 1;
 
-// Further on it is looked up at each step of so many: a run that is met is left out a few steps later than it could be.
-const STRIDE: u64 = 4;
+// Further on it is looked up at each step of so many: a look costs as much as some steps.
+const STRIDE: u64 = 8;
 
 /// A place that is kept, and its mark.
 #[derive(Drop)]
@@ -34,13 +35,10 @@ pub struct Row<R, F> {
     pub kept: Vec<Kept<R, F>>,
 }
 
-/// The places that are kept. A place lies in the row that its mark tells; in a full row the newest one takes the place of the oldest.
+/// The places that are kept: of runs that may have one more fault. A place lies in the row that its mark tells; in a full row the newest one takes the place of the oldest.
 #[derive(Drop)]
 pub struct Stores<R, F> {
-    /// Those from which something may depart.
-    pub departing: Vec<Row<R, F>>,
-    /// Those of runs that depart no more.
-    pub last: Vec<Row<R, F>>,
+    pub rows: Vec<Row<R, F>>,
 }
 
 impl<R: Drop, F: Drop> Stores<R, F> {
@@ -48,9 +46,8 @@ impl<R: Drop, F: Drop> Stores<R, F> {
     pub fn new(alloc: Global, bounds: &Bounds) -> Result<Stores<R, F>, AllocError>
         ensures { IfOk result (λ stores. (h : Here R F) → IsHeld stores h → ⊥) }
     {
-        let departing = empty_rows(alloc, bounds.rows)?;
-        let last = empty_rows(alloc, bounds.last_rows)?;
-        Ok(Stores { departing, last })
+        let rows = empty_rows(alloc, bounds.rows)?;
+        Ok(Stores { rows })
     }
 
     /// No place is kept, nor will one be.
@@ -58,8 +55,7 @@ impl<R: Drop, F: Drop> Stores<R, F> {
         ensures { (h : Here R F) → IsHeld result h → ⊥ }
     {
         Stores {
-            departing: Vec::new(alloc),
-            last: Vec::new(alloc),
+            rows: Vec::new(alloc),
         }
     }
 }
@@ -212,76 +208,44 @@ fn keep_in<R: MarkedRun>(
     }
 }
 
-// A place is looked up among these; where none stands for it, it is kept. Whether it has to be made.
-fn visit_rows<R: MarkedRun>(
-    alloc: Global,
-    rows: &mut Vec<Row<R, R::Fault>>,
-    place: &Place<R, R::Fault>,
-) -> Result<bool, WalkFault>
-    ensures visits { IfOk result (λ makes. VisitsIn R.before R.like rows.old.items place.now makes rows.new.items) }
-    ensures fault { IfErr result IsNotFull }
-{
-    let mark = place.run.mark(alloc, &place.owed)?;
-    if covers_in(alloc, rows, mark, place)? {
-        return Ok(false);
-    }
-    keep_in(alloc, rows, mark, place)?;
-    Ok(true)
-}
-
-// Whether a kept place that has this mark stands for this one.
-fn covers_any<R: MarkedRun>(
-    alloc: Global,
-    stores: &Stores<R, R::Fault>,
-    mark: u64,
-    place: &Place<R, R::Fault>,
-) -> Result<bool, WalkFault>
-    ensures stands { IfOk result (λ covers. IsTrue covers → OneStandsFor R.before R.like (IsHeld stores.now) place.now) }
-    ensures fault { IfErr result IsNotFull }
-{
-    if covers_in(alloc, &stores.last, mark, place)? {
-        return Ok(true);
-    }
-    covers_in(alloc, &stores.departing, mark, place)
-}
-
-// Whether something may depart from a place.
-fn may_depart<R: MarkedRun>(bounds: &Bounds, place: &Place<R, R::Fault>) -> bool {
-    place.faults < bounds.faults || !place.owed.is_empty()
-}
-
-// Whether a place of a run that departs no more is kept: where many runs come to be alike, and not behind its departure, since most of these are never met.
-fn is_kept<R: MarkedRun>(bounds: &Bounds, place: &Place<R, R::Fault>) -> bool {
-    place.steps != 0 && bounds.meet != 0 && place.run.stage() % bounds.meet == 0
-}
-
-// Whether one that is not kept is looked up.
-fn is_sought<R: MarkedRun>(place: &Place<R, R::Fault>) -> bool {
-    place.steps <= FIRST_STEPS || place.steps % STRIDE == 0
-}
-
-// A place of a run that departs no more is looked up among all, or not; where none stands for it, it may be kept. Whether it has to be made.
-fn visit_last<R: MarkedRun>(
+// A place is looked up among those that are kept; where none stands for it, it is kept. Whether it has to be made.
+fn visit_and_keep<R: MarkedRun>(
     alloc: Global,
     stores: &mut Stores<R, R::Fault>,
-    bounds: &Bounds,
     place: &Place<R, R::Fault>,
 ) -> Result<bool, WalkFault>
     ensures visits { IfOk result (λ makes. Visits R.before R.like stores.old place.now makes stores.new) }
     ensures fault { IfErr result IsNotFull }
 {
-    let keeps = is_kept(bounds, place);
-    if !keeps && !is_sought(place) {
+    let mark = place.run.mark(alloc, &place.owed)?;
+    if covers_in(alloc, &stores.rows, mark, place)? {
+        return Ok(false);
+    }
+    keep_in(alloc, &mut stores.rows, mark, place)?;
+    Ok(true)
+}
+
+// Whether a place of a run that may have no more faults is looked up. What was put off may depart from each place of a run, so one that has such is looked up at each.
+fn is_sought<R: MarkedRun>(place: &Place<R, R::Fault>) -> bool {
+    !place.owed.is_empty() || place.steps <= FIRST_STEPS || place.steps % STRIDE == 0
+}
+
+// A place of a run that may have no more faults is looked up, or not. It is not kept: there are many, and few are met again. Whether it has to be made.
+fn visit_last<R: MarkedRun>(
+    alloc: Global,
+    stores: &Stores<R, R::Fault>,
+    place: &Place<R, R::Fault>,
+) -> Result<bool, WalkFault>
+    ensures visits { IfOk result (λ makes. Visits R.before R.like stores.now place.now makes stores.now) }
+    ensures fault { IfErr result IsNotFull }
+{
+    if !is_sought(place) {
         return Ok(true);
     }
     let mark = place.run.mark(alloc, &place.owed)?;
-    if covers_any(alloc, stores, mark, place)? {
+    if covers_in(alloc, &stores.rows, mark, place)? {
         return Ok(false);
     }
-    if !keeps {
-        return Ok(true);
-    }
-    keep_in(alloc, &mut stores.last, mark, place)?;
     Ok(true)
 }
 
@@ -295,9 +259,9 @@ pub fn visit<R: MarkedRun>(
     ensures visits { IfOk result (λ makes. Visits R.before R.like stores.old place.now makes stores.new) }
     ensures fault { IfErr result IsNotFull }
 {
-    if may_depart(bounds, place) {
-        visit_rows(alloc, &mut stores.departing, place)
+    if place.faults < bounds.faults {
+        visit_and_keep(alloc, stores, place)
     } else {
-        visit_last(alloc, stores, bounds, place)
+        visit_last(alloc, stores, place)
     }
 }

@@ -49,7 +49,7 @@ where
     }
 }
 
-// The rows are divided among so many threads. Each keeps places as many times more often, since it meets none that others keep.
+// The rows are divided among so many threads.
 fn divided(bounds: &Bounds, threads: usize) -> Bounds
     ensures faults { result.faults ≡ bounds.now.faults }
     ensures steps { result.steps ≡ bounds.now.steps }
@@ -57,8 +57,6 @@ fn divided(bounds: &Bounds, threads: usize) -> Bounds
     let threads = threads.max(1);
     Bounds {
         rows: bounds.rows / threads,
-        last_rows: bounds.last_rows / threads,
-        meet: bounds.meet.div_ceil(threads as u64),
         ..*bounds
     }
 }

@@ -103,8 +103,6 @@ fn found_of(rt: &impl Abort, alloc: Global) -> (u64, usize) {
         faults: 1,
         steps: 1_000,
         rows: 64,
-        last_rows: 64,
-        meet: 8,
     };
     let run = Compared::new(run_of(rt, alloc, SMALL, b""));
     let mut search = Search::new(alloc, run, bounds).expect(rt, "no search");

@@ -21,13 +21,11 @@ fn first() -> Trial {
     }
 }
 
-fn bounds(faults: u32, rows: usize, meet: u64) -> Bounds {
+fn bounds(faults: u32, rows: usize) -> Bounds {
     Bounds {
         faults,
         steps: 10,
         rows,
-        last_rows: rows,
-        meet,
     }
 }
 
@@ -148,9 +146,9 @@ fn note_by_another(
 }
 
 // Whatever is kept, each end is found that has one, and its least script. So it is by parts, whoever searches them.
-fn finds_all(rt: &impl Abort, alloc: Global, faults: u32, rows: usize, meet: u64) {
+fn finds_all(rt: &impl Abort, alloc: Global, faults: u32, rows: usize) {
     let (all, runs) = by_walk(rt, alloc, faults);
-    let bounds = bounds(faults, rows, meet);
+    let bounds = bounds(faults, rows);
     let mut found = no_ends(rt, alloc);
     let mut search = Search::new(alloc, first(), bounds).expect(rt, "no search");
     assert!(rt; note_all(rt, alloc, &mut found, &mut search) <= runs);
@@ -171,9 +169,7 @@ fn each_end_is_found(rt: HostRuntime) {
     let alloc = rt.alloc();
     for faults in 0..4 {
         for rows in &[0, 1, 64] {
-            for meet in &[0, 1, 3] {
-                finds_all(rt, alloc, faults, *rows, *meet);
-            }
+            finds_all(rt, alloc, faults, *rows);
         }
     }
 }
@@ -181,7 +177,7 @@ fn each_end_is_found(rt: HostRuntime) {
 // How many runs are found.
 fn runs_found(rt: &impl Abort, alloc: Global, rows: usize) -> u64 {
     let mut found = no_ends(rt, alloc);
-    let mut search = Search::new(alloc, first(), bounds(2, rows, 1)).expect(rt, "no search");
+    let mut search = Search::new(alloc, first(), bounds(2, rows)).expect(rt, "no search");
     note_all(rt, alloc, &mut found, &mut search)
 }
 
@@ -195,7 +191,7 @@ fn runs_are_left_out(rt: HostRuntime) {
 
 // A part of a search: the faults along its first run.
 fn first_part(rt: &impl Abort, alloc: Global) -> Part<Trial, u32> {
-    let mut search = Search::new(alloc, first(), bounds(1, 4, 1)).expect(rt, "no search");
+    let mut search = Search::new(alloc, first(), bounds(1, 4)).expect(rt, "no search");
     for _ in 0..2 {
         if let Some(Next::Part(part)) = search.next_apart(alloc).expect(rt, "no run") {
             return part;
@@ -215,7 +211,7 @@ fn limit_is_told(rt: HostRuntime) {
         size: 0,
         limit: 3,
     };
-    let mut search = Search::new(alloc, run, bounds(1, 4, 1)).expect(rt, "no search");
+    let mut search = Search::new(alloc, run, bounds(1, 4)).expect(rt, "no search");
     assert!(rt; matches!(search.next_run(alloc), Err(WalkFault::Full)));
     assert!(rt; matches!(search.next_run(alloc), Err(WalkFault::Full)));
     let part = first_part(rt, alloc);
@@ -228,7 +224,7 @@ fn limit_is_told(rt: HostRuntime) {
 fn idle_search_finds_nothing(rt: HostRuntime) {
     let rt = &rt;
     let alloc = rt.alloc();
-    let mut search: Search<Trial> = Search::idle(alloc, bounds(2, 4, 1)).expect(rt, "no search");
+    let mut search: Search<Trial> = Search::idle(alloc, bounds(2, 4)).expect(rt, "no search");
     assert!(rt; search.next_run(alloc).expect(rt, "no run").is_none());
     assert!(rt; search.next_apart(alloc).expect(rt, "no run").is_none());
 }
@@ -274,7 +270,7 @@ const LEAST: [u64; 11] = [
 // Where memory is refused, that is told, and nothing else is. (To be run with each allocation refused in turn.)
 #[test]
 fn refused_memory_is_told(rt: HostRuntime) {
-    match by_two(rt.alloc(), bounds(2, 8, 3)) {
+    match by_two(rt.alloc(), bounds(2, 8)) {
         Ok(least) => assert!(rt; least.as_slice() == LEAST.as_slice()),
         Err(fault) => assert!(rt; fault == WalkFault::NoMemory),
     }
@@ -288,8 +284,6 @@ fn too_few_steps(rt: HostRuntime) {
         faults: 0,
         steps: 4,
         rows: 4,
-        last_rows: 4,
-        meet: 1,
     };
     let mut search = Search::new(alloc, first(), few).expect(&rt, "no search");
     assert!(rt; matches!(search.next_run(alloc), Err(WalkFault::Mismatch)));

@@ -102,10 +102,6 @@ impl MarkedRun for Trial {
         self.size <= other.size
     }
 
-    fn stage(&self) -> u64 {
-        self.size
-    }
-
     fn mark(&self, _alloc: Global, owed: &[u32]) -> Result<u64, WalkFault> {
         Ok((self.number % 4) as u64 + owed.len() as u64)
     }

@@ -138,10 +138,6 @@ impl MarkedRun for Trip {
         is_sooner(&self.events, &other.events)
     }
 
-    fn stage(&self) -> u64 {
-        u64::from(self.at)
-    }
-
     fn mark(&self, _alloc: Global, _owed: &[u32]) -> Result<u64, WalkFault> {
         Ok(u64::from(self.at))
     }

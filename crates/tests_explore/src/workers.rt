@@ -13,8 +13,6 @@ fn bounds(faults: u32, steps: u64) -> Bounds {
         faults,
         steps,
         rows: 4,
-        last_rows: 4,
-        meet: 1,
     }
 }
 

@@ -1,10 +1,9 @@
-use Rattle.std.proofs.Common.{refl}
-use Rattle.mr_explore_places.proofs.Slots.{keeps_last}
+use Rattle.std.proofs.Common.{subst, List}
+use Rattle.mr_explore_places.specs.Covering.{OneStandsFor}
+use Rattle.mr_explore_places.specs.Keeping.{IsKept}
+use Rattle.mr_explore_places.specs.declared.stores.Row.{Row}
 use Rattle.mr_explore_places.proofs.stores.visit_last.Goals as goal
 
 pub returns-then-branch-clause-visits : goal.returns-then-branch-clause-visits
-returns-then-branch-clause-visits g c = (c.in_ok-covers_any.ensures.stands c.if-branch.true, λ x i. i)
-
-pub returns-clause-visits : goal.returns-clause-visits
-returns-clause-visits g c =
-    keeps_last g.R.AlikeRun.before g.R.AlikeRun.like c.args.stores.now (record c.args.stores.now { last = c.keep_in.new.rows }) c.args.place.now refl c.in_ok-keep_in.ensures.keeps
+returns-then-branch-clause-visits g c =
+    (subst (λ (z : List (Row g.row.R.Denot g.row.R-Fault.Denot)). OneStandsFor g.R.AlikeRun.before g.R.AlikeRun.like (IsKept z) c.args.place.now) c.deref-2.ensures.value (c.in_ok-covers_in.ensures.stands c.if-branch.true), λ x i. i)

@@ -2,7 +2,7 @@ use Rattle.std.proofs.Common.{subst, List}
 use Rattle.mr_explore_places.specs.Covering.{OneStandsFor}
 use Rattle.mr_explore_places.specs.Keeping.{IsKept}
 use Rattle.mr_explore_places.specs.declared.stores.Row.{Row}
-use Rattle.mr_explore_places.proofs.stores.visit_rows.Goals as goal
+use Rattle.mr_explore_places.proofs.stores.visit_and_keep.Goals as goal
 
 pub returns-then-branch-clause-visits : goal.returns-then-branch-clause-visits
 returns-then-branch-clause-visits g c =
