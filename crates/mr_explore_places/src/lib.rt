@@ -42,6 +42,7 @@ mod place;
 mod run;
 mod search;
 mod stores;
+mod trail;
 mod turn;
 
 pub use bounds::Bounds;

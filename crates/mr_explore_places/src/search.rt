@@ -12,6 +12,7 @@ use crate::part::{Next, Part};
 use crate::place::Place;
 use crate::run::MarkedRun;
 use crate::stores::Stores;
+use crate::trail::keep_trail;
 use crate::turn::{seek, seek_apart};
 use mr_explore_search::{Ended, WalkFault};
 use std::alloc::{AllocError, Global};
@@ -103,6 +104,15 @@ impl<R: MarkedRun> Search<R> {
         }
         self.levels.push_front(part.into_level())?;
         Ok(())
+    }
+
+    /// Of a part that it took the places are kept along which its faults are tried: whoever gave the part away made them. It fails where there is no memory, or where a run's own
+    /// call fails; what it keeps then is not told.
+    pub fn keep_trail(&mut self, alloc: Global, part: &Part<R, R::Fault>) -> Result<(), WalkFault>
+        ensures keeps { (bounds : Bounds) (first : R) (parts given : List (Level R R.Fault)) (found : List (Found R)) → HasFound R.steps R.rest R.before R.void R.like R.ends bounds first (part.now ∷ parts) given found self.old → OnOk result (HasFound R.steps R.rest R.before R.void R.like R.ends bounds first (part.now ∷ parts) given found self.new) }
+        ensures fault { IfErr result IsNotFull }
+    {
+        keep_trail(alloc, &mut self.stores, part.level())
     }
 
     /// From here on it keeps none of the places that it kept so far, and gives their memory back. It finds what it would have found else, and perhaps more runs than it needs.

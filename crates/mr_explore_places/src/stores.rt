@@ -249,6 +249,19 @@ fn visit_last<R: MarkedRun>(
     Ok(true)
 }
 
+/// A place that others made is kept.
+pub fn keep_made<R: MarkedRun>(
+    alloc: Global,
+    stores: &mut Stores<R, R::Fault>,
+    place: &Place<R, R::Fault>,
+) -> Result<(), WalkFault>
+    ensures keeps { OnOk result ((h : Here R R.Fault) → IsHeld stores.new h → (place.now ≡ h) ⊎ IsHeld stores.old h) }
+    ensures fault { IfErr result IsNotFull }
+{
+    let mark = place.run.mark(alloc, &place.owed)?;
+    keep_in(alloc, &mut stores.rows, mark, place)
+}
+
 /// A place is looked up, unless that is not worth its while; where none that is kept stands for it, it may be kept. Whether it has to be made.
 pub fn visit<R: MarkedRun>(
     alloc: Global,
