@@ -99,7 +99,6 @@ impl MarkedRun for MergedRun {
         self.run.comes_before(&other.run)
     }
 
-    // How many events its script has.
     fn mark(&self, alloc: Global, owed: &[Fault]) -> Result<u64, WalkFault> {
         self.run.mark(alloc, owed)
     }

@@ -15,14 +15,16 @@
 //!
 //! # Choices
 //!
-//! - **Threads share the parts of a round, which they only read, and the number of the next one.** A worker keeps its places and its table from round to round. The
-//!   rows in which places are kept are divided among the threads, so the memory does not grow with their number. A run that one worker made another one may
-//!   make again.
+//! - **Threads share the parts of a round, which they only read, and the number of the next one.** A worker keeps its table from round to round. The rows in
+//!   which places are kept are divided among the search and the workers, so the memory does not grow with their number. mr_explore_places keeps only places of
+//!   runs that may have one more fault, and in a part none may: so a worker's rows stay empty. Four threads make half again as many events as where each keeps
+//!   the places along its part's run (tried without a proof).
 //! - **Rounds.** The search gives away 128 parts for each worker. Whoever is free copies the next one and searches it, since one part may cost many times what
 //!   another one does. Runs that the search meets while it looks for parts are noted at once.
 //! - **A worker tells which parts it searched**, by their places. Behind the round each place has to be told, or that is a mismatch: nothing is known of a number
 //!   that threads share.
-//! - **Each worker lets its own places go** behind the last round. They are gigabytes in small pieces, and one thread would take seconds for all of them.
+//! - **Each worker lets its own places go** behind the last round. Where it keeps many they are gigabytes in small pieces, and one thread would take seconds for
+//!   all of them.
 //! - **Tables are joined at the end**, in the order of the workers. The order is no matter.
 //! - **A worker that stops keeps its fault**, and the search stops behind the round. The contract does not rest on that: a table of a worker that has stopped is
 //!   never joined.
