@@ -1,12 +1,14 @@
 -- What is known of all runs of an input where a search has found all.
-use Rattle.std.proofs.Common.{◌≡◌, inl, ℕ, true, false, List, [], refl, sym, ap, subst, ◌∙◌}
+use Rattle.std.proofs.Common.{◌≡◌, inl, ℕ, true, false, List, [], ◌++◌, refl, sym, ap, subst, ◌∙◌}
 use Rattle.mr_explore_search.specs.Runs.{Found, Run}
 use Rattle.mr_explore_alike.specs.Leaving.{Here}
 use Rattle.mr_explore_places.specs.Places.{beginning}
 use Rattle.mr_explore_places.specs.Searching.{HasDone}
 use Rattle.mr_explore_places.specs.State.{whole}
 use Rattle.mr_explore_places.specs.declared.bounds.Bounds.{Bounds}
+use Rattle.mr_explore_search.specs.Laws.{In}
 use Rattle.mr_explore_places.proofs.Doing.{enough, parts_taken}
+use Rattle.mr_explore_places.proofs.Joining.{whole_alone}
 use Rattle.mr_explore_least.specs.Laws.{EachHasOneEnd}
 use Rattle.mr_explore_least.specs.Table.{Arrival, Table}
 use Rattle.mr_explore_noted.specs.Noting as noting
@@ -41,9 +43,9 @@ each_has_one_end bounds first a b c d = ends_once bounds.steps bounds.faults fir
 
 -- ---- a search
 
-module _ (lost : NoCarefulEndIsLost) (itself : RunsAreLikeThemselves) (input : List ℕ) (budget : ℕ) (first : Exploring) (is_run : IsRunOf input first) (made : List (Here Exploring Fault)) (found : List (Found Exploring)) where
+module _ (lost : NoCarefulEndIsLost) (itself : RunsAreLikeThemselves) (input : List ℕ) (budget : ℕ) (first : Exploring) (is_run : IsRunOf input first) (made known : List (Here Exploring Fault)) (found : List (Found Exploring)) (alone : (h : Here Exploring Fault) → In h (made ++ known) → In h made) where
   abbrev Done : Type 0
-  Done = HasDone explored rest before void (like false) ends budget most_events first (whole first) [] [] made found
+  Done = HasDone explored rest before void (like false) ends budget most_events first (whole first) known [] [] made found
 
   goes_first : first.past_limit ≡ false
   goes_first = (itself false input first is_run).goes
@@ -51,8 +53,8 @@ module _ (lost : NoCarefulEndIsLost) (itself : RunsAreLikeThemselves) (input : L
   knows : Done → Knows explored careful rest before void (like false) ends_careful end_of events_of most_events budget first found
   knows d = record {
     are_runs = d.runs;
-    lost = λ k s one real. lost input budget (awake void made) (alive void found) first is_run (enough_awake explored rest before void (like false) ends stays_alive made budget found (enough explored rest before void (like false) ends budget most_events first (whole first) made found d))
-        (taken_awake explored rest before void (like false) ends stays_alive made 0 0 [] first goes_first (parts_taken explored rest before void (like false) ends budget most_events first (whole first) made found d (beginning first) (inl refl) goes_first)) k s one real;
+    lost = λ k s one real. lost input budget (awake void made) (alive void found) first is_run (enough_awake explored rest before void (like false) ends stays_alive made budget found (enough explored rest before void (like false) ends budget most_events first (whole first) known made found alone d))
+        (taken_awake explored rest before void (like false) ends stays_alive made 0 0 [] first goes_first (parts_taken explored rest before void (like false) ends budget most_events first (whole first) known made found alone d (beginning first) (inl refl) goes_first)) k s one real;
     same = λ s t e. e.outcome;
     orders = λ s t. refl;
     one_end = ends_once most_events budget first;
@@ -79,6 +81,6 @@ module _ (lost : NoCarefulEndIsLost) (itself : RunsAreLikeThemselves) (input : L
 pub finds : NoCarefulEndIsLost → RunsAreLikeThemselves → (input : List ℕ) (bounds : Bounds) (first : Exploring) (t : Table) → IsRunOf input first → bounds.steps ≡ most_events
     → HasAll explored rest before void (like false) ends end_of events_of bounds first (whole first) [] t → Finds bounds.faults first t
 finds lost itself input bounds first t is steps all =
-    let done : (n : ℕ) → bounds.steps ≡ n → HasDone explored rest before void (like false) ends bounds.faults n first (whole first) [] [] all.1.0 all.0
-    = λ n e. subst (λ (m : ℕ). HasDone explored rest before void (like false) ends bounds.faults m first (whole first) [] [] all.1.0 all.0) e all.1.1 in
-    finds_by lost itself input bounds.faults first is all.1.0 all.0 t (done most_events steps) all.2
+    let done : (n : ℕ) → bounds.steps ≡ n → HasDone explored rest before void (like false) ends bounds.faults n first (whole first) all.1.1 [] [] all.1.0 all.0
+    = λ n e. subst (λ (m : ℕ). HasDone explored rest before void (like false) ends bounds.faults m first (whole first) all.1.1 [] [] all.1.0 all.0) e all.1.2 in
+    finds_by lost itself input bounds.faults first is all.1.0 all.1.1 all.0 (whole_alone explored rest before void (like false) ends bounds.faults bounds.steps first all.1.0 all.1.1 all.1.3) t (done most_events steps) all.2

@@ -21,13 +21,16 @@
 //!
 //! - **A run is left out** where another one was made that is like it and earlier: it has fewer faults, or as many, and its script comes before
 //!   (mr_explore_compared, mr_explore_places).
-//! - **What is kept**: 4,096 rows of four places of runs that may have one more fault. Other numbers change how long it takes, and nothing else. Runs that
-//!   have as many as they may are looked up among these and not kept: when 2,048 of them were, the search made a fifth fewer events and took longer.
+//! - **What is kept**: 5,120 rows of four places of runs that may have one more fault, and with threads a quarter as many more. Other numbers change how long
+//!   it takes, and nothing else. One row of five is for runs with more than one fault (mr_explore_places): by three faults a search has 180 times as many
+//!   of their places, and makes twice as many runs where these push the others out.
+//! - **Runs that have as many faults as they may** are looked up among these and not kept: when 2,048 of them were, the search made a fifth fewer events and took
+//!   longer.
 //! - **A place holds a whole run.** The number of rows does not look at how large that is: behind a script that starts 1,000 masters a search by one fault
 //!   took 6.4 GB.
 //! - **A goal** is sought by 0 faults, then by 1, and so on. A job with one split has 1, 1,148 and 847,413 runs with at most 0, 1 and 2 faults, so the
 //!   earlier searches cost little.
-//! - **Threads** are mr_explore_workers'. They divide the rows, and share the parts that they search.
+//! - **Threads** are mr_explore_workers'. They share the parts that they search.
 //! - **A run that a limit ends** is told as of `explore`, where one was found: the ends are then `not` those `of all runs`.
 //!
 //! # How it is proved

@@ -17,8 +17,8 @@ use mr_sim_commands::SimFault;
 use std::alloc::Global;
 use std::thread::Threads;
 
-// In so many rows places are kept, by all threads together.
-const ROWS: usize = 4096;
+// In so many rows a search keeps places.
+const ROWS: usize = 5120;
 
 // How far a search over runs with at most so many faults goes, and how many places it keeps.
 #[tactic(auto, unfolding(mr_explore::specs::Faults::most_events))]

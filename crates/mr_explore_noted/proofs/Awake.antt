@@ -11,6 +11,7 @@ use Rattle.mr_explore_alike.proofs.Void.{either, itself}
 use Rattle.mr_explore_places.specs.Places.{beginning}
 use Rattle.mr_explore_places.specs.State.{IsDone, whole}
 use Rattle.mr_explore_places.specs.declared.bounds.Bounds.{Bounds}
+use Rattle.mr_explore_places.proofs.Joining.{whole_alone}
 use Rattle.mr_explore_places.proofs.Doing.{enough, parts_taken}
 use Rattle.mr_explore_noted.proofs.Lists.{same_run, true_and_false}
 
@@ -107,5 +108,5 @@ module _ {S F : Type 0} (steps : Steps S F) (rest : S → ℕ) (before : S → S
       absurd (true_and_false (subst (λ (z : S). void z ≡ true) (sym same) nothing) real))
       (λ begins.
       no_end steps rest before void like ends bounds.steps bounds.faults (awake void h.0) (alive void found) first l alike few
-      (enough_awake l.not_void go stop bounds.faults h.0 found (enough steps rest before void like ends bounds.faults bounds.steps first (whole first) h.0 found h.1))
-      (taken_awake l.not_void h.0 0 0 [] first begins (parts_taken steps rest before void like ends bounds.faults bounds.steps first (whole first) h.0 found h.1 (beginning first) (inl refl) begins)) k s one real)
+      (enough_awake l.not_void go stop bounds.faults h.0 found (enough steps rest before void like ends bounds.faults bounds.steps first (whole first) h.1 h.0 found (whole_alone steps rest before void like ends bounds.faults bounds.steps first h.0 h.1 h.3) h.2))
+      (taken_awake l.not_void h.0 0 0 [] first begins (parts_taken steps rest before void like ends bounds.faults bounds.steps first (whole first) h.1 h.0 found (whole_alone steps rest before void like ends bounds.faults bounds.steps first h.0 h.1 h.3) h.2 (beginning first) (inl refl) begins)) k s one real)

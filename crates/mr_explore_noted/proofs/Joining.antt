@@ -59,13 +59,13 @@ module _ {S : Type 0} (void : S → Bool) (end : S → Outcome) (events : S → 
 
 module _ {S F : Type 0} (steps : Steps S F) (rest : S → ℕ) (before : S → S → Bool) (void : S → Bool) (like : S → List F → S → List F → Type 0) (ends : S → S → Type 0) (end : S → Outcome) (events : S → List Event) where
   pub one_of_found : FoundCame steps rest before void like ends end events
-  one_of_found bounds first parts given found a d c = record { run = c.0; one = d.1.runs (Run a.faults c.0) c.1; goes = c.2; is = c.3 }
+  one_of_found bounds first parts given found a d c = record { run = c.0; one = d.2.runs (Run a.faults c.0) c.1; goes = c.2; is = c.3 }
 
   pub limit_of_one : LimitIsOfOne steps rest before void like ends end events
-  limit_of_one bounds first parts given t h e = let p = h.2.limit.0 e in (p.0, p.1, h.1.1.runs (Run p.0 p.1) p.2, p.3)
+  limit_of_one bounds first parts given t h e = let p = h.2.limit.0 e in (p.0, p.1, h.1.2.runs (Run p.0 p.1) p.2, p.3)
 
   pub all_joined : JoinedHasAll steps rest before void like ends end events
-  all_joined bounds first parts given some others t u one f g h k =
-      let done = given_joined steps rest before void like ends bounds first parts given some others h.0 k.0 f g h.1 k.1 in
+  all_joined bounds first parts given some others t u one f g b h k =
+      let done = given_joined steps rest before void like ends bounds first parts given some others h.0 k.0 f g b h.1 k.1 in
       let of_both = one_end_within (CameBy void end events steps bounds first) (CameOf void end events (k.0 ++ h.0)) (λ a c. one_of_found bounds first parts others (k.0 ++ h.0) a done c) one in
       (k.0 ++ h.0, done, tells_both void end events h.0 k.0 t u h.2 k.2 of_both)

@@ -53,6 +53,7 @@ module _ {S F : Type 0} (steps : Steps S F) (rest : S → ℕ) (before : S → S
   -- Where another search has found all of some of the parts that were given away, the two tables together tell of all, but for what comes of the others.
   abbrev pub JoinedHasAll : Type 0
   JoinedHasAll = (bounds : Bounds) (first : S) (parts given some others : List (Level S F)) (t u : Table) → EachHasOneEnd (CameBy void end events steps bounds first) → AreThoseOf steps rest before void like ends given some others → AreThoseOf steps rest before void like ends others given []
+      → AreThoseOf steps rest before void like ends some given []
       → HasAll steps rest before void like ends end events bounds first parts given t → HasAll steps rest before void like ends end events bounds first some [] u
       → HasAll steps rest before void like ends end events bounds first parts others (joined t u)
 

@@ -55,23 +55,25 @@ module _ {S F : Type 0} (steps : Steps S F) (rest : S → ℕ) (before : S → S
   -- levels that lead to the same places
   pub turned_alike : (l : Level S F) (kept : Stores S F) (old new : List (Level S F)) → LeadAlike steps budget (l ∷ old) new → Turn l kept old (Ok None) kept new
   turned_alike l kept old new e first parts given found s =
-      (s.0, led_alike steps rest before void like ends budget most first parts [] (l ∷ old ++ given) (new ++ given) s.0 found (alike_given steps budget (l ∷ old) new given e) s.1, s.2)
+      (s.0, s.1, led_alike steps rest before void like ends budget most first parts s.1 [] (l ∷ old ++ given) (new ++ given) s.0 found (alike_given steps budget (l ∷ old) new given e) s.2, s.3, s.4)
 
   -- a kept place stands for the one where a run begins
   pub begin_covered : (p : Here S F) (old-kept kept : Stores S F) (old : List (Level S F)) → Visits before like old-kept p false kept → Turn (level.Begin p) old-kept old (Ok None) kept old
   begin_covered p old-kept kept old v first parts given found s =
-      let d = taken_up steps rest before void like ends budget most first parts p (old ++ given) s.0 found s.1 in (
+      let d = taken_up steps rest before void like ends budget most first parts s.1 p (old ++ given) s.0 found s.2 in (
         s.0,
-        stood_for steps rest before void like ends budget most first parts p (old ++ given) s.0 found (is_covered steps rest before void like ends old-kept s.0 p s.2 v.0) d,
-        made_still steps rest before void like ends old-kept kept s.0 p s.2 v,
+        s.1,
+        stood_for steps rest before void like ends budget most first parts s.1 p (old ++ given) s.0 found (is_covered steps rest before void like ends old-kept (s.0 ++ s.1) p s.3 v.0) d,
+        made_still steps rest before void like ends old-kept kept (s.0 ++ s.1) p s.3 v,
+        s.4,
       )
 
   -- a run that begins is followed
   started : (p : Here S F) (old-kept mid kept : Stores S F) (old : List (Level S F)) (r : Result (Trail S) WalkFault) → Visits before like old-kept p true mid → Follows steps rest before void like ends budget most p mid r kept
       → (first : S) (parts given : List (Level S F)) (found : List (Found S)) → Searched first parts old-kept (level.Begin p ∷ old ++ given) found → FollowedTo steps rest before void like ends budget most first parts p (old ++ given) found r kept
   started p old-kept mid kept old r v f first parts given found s =
-      f first parts (old ++ given) s.0 found (s.1.on_way p (inl refl)) (taken_up steps rest before void like ends budget most first parts p (old ++ given) s.0 found s.1)
-      (made_one steps rest before void like ends old-kept mid s.0 p s.2 v)
+      f first parts s.1 (old ++ given) s.0 found (s.2.on_way p (inl refl)) (taken_up steps rest before void like ends budget most first parts s.1 p (old ++ given) s.0 found s.2)
+      (made_one steps rest before void like ends old-kept mid (s.0 ++ s.1) p s.3 v) s.4
 
   pub begin_stops : (p : Here S F) (old-kept mid kept : Stores S F) (old new : List (Level S F)) (x : WalkFault) (r : Result (Option (Ended S)) WalkFault) → Visits before like old-kept p true mid
       → Follows steps rest before void like ends budget most p mid (Err x) kept → IsErrAnd r (λ y. y ≡ x) → Turn (level.Begin p) old-kept old r kept new
@@ -86,25 +88,25 @@ module _ {S F : Type 0} (steps : Steps S F) (rest : S → ℕ) (before : S → S
   begin_done p old-kept mid kept old new trail trying coming v f t c is first parts given found s =
       let h = started p old-kept mid kept old (Ok trail) v f first parts given found s in
       let alike = laid_as steps budget trail.beyond p (old ++ given) trying coming t c in
-      let d = led_alike steps rest before void like ends budget most first parts [] (laid steps budget (suc trail.beyond) p (old ++ given)) (with_faults trying trail.beyond (with_late coming trail.beyond (old ++ given))) h.0 (with_ended steps rest before void like ends budget most trail.ended found) alike h.1 in
+      let d = led_alike steps rest before void like ends budget most first parts h.1 [] (laid steps budget (suc trail.beyond) p (old ++ given)) (with_faults trying trail.beyond (with_late coming trail.beyond (old ++ given))) h.0 (with_ended steps rest before void like ends budget most trail.ended found) alike h.2 in
       let lists : with_faults trying trail.beyond (with_late coming trail.beyond (old ++ given)) ≡ new ++ given = pushed_given trying coming trail.beyond old given ∙ ap (λ (z : List (Level S F)). z ++ given) (sym is) in
-      (h.0, subst (λ (z : List (Level S F)). HasDone steps rest before void like ends budget most first parts [] z h.0 (with_ended steps rest before void like ends budget most trail.ended found)) lists d, h.2)
+      (h.0, h.1, subst (λ (z : List (Level S F)). HasDone steps rest before void like ends budget most first parts h.1 [] z h.0 (with_ended steps rest before void like ends budget most trail.ended found)) lists d, h.3, h.4)
 
   -- a void run is told
   pub told_void : (p : Here S F) (kept : Stores S F) (old : List (Level S F)) (r : Result (Option (Ended S)) WalkFault) → void p.run ≡ true → Tells steps most p r → Turn (level.Begin p) kept old r kept old
   told_void p kept old (Ok (Some e)) nothing w = λ first parts given found s.
       let some = w.0 in
       let left : most ≡ suc (most - 1) = omega (arith, some) in
-      let way = subst (λ (z : ℕ). IsOnItsWay steps budget most first z p) left (s.1.on_way p (inl refl)) in
+      let way = subst (λ (z : ℕ). IsOnItsWay steps budget most first z p) left (s.2.on_way p (inl refl)) in
       let one = subst (λ (z : ℕ). IsOneBy steps most budget first (Run z e.run)) (sym w.2) (is_one steps budget most first (most - 1) p e.run way w.1) in
-      let d = passed_over steps rest before void like ends budget most first parts p (old ++ given) s.0 found nothing s.1 in
-      (s.0, found_more steps rest before void like ends budget most first parts (Run e.faults e.run) [] (old ++ given) s.0 found one d, s.2)
+      let d = passed_over steps rest before void like ends budget most first parts s.1 p (old ++ given) s.0 found nothing s.2 in
+      (s.0, s.1, found_more steps rest before void like ends budget most first parts s.1 (Run e.faults e.run) [] (old ++ given) s.0 found one d, s.3, s.4)
   told_void p kept old (Ok None) nothing w = absurd w
   told_void p kept old (Err fault.NoMemory) nothing w = λ first parts given found s. tt
   told_void p kept old (Err fault.Full) nothing w = λ first parts given found s.
       let some = w.0 in
       let left : most ≡ suc (most - 1) = omega (arith, some) in
-      would_pass steps budget most first (most - 1) p (subst (λ (z : ℕ). IsOnItsWay steps budget most first z p) left (s.1.on_way p (inl refl))) w.1
+      would_pass steps budget most first (most - 1) p (subst (λ (z : ℕ). IsOnItsWay steps budget most first z p) left (s.2.on_way p (inl refl))) w.1
   told_void p kept old (Err fault.Mismatch) nothing w = λ first parts given found s. tt
 
   -- ---- turns are made
@@ -143,8 +145,8 @@ module _ {S F : Type 0} (steps : Steps S F) (rest : S → ℕ) (before : S → S
     pub apart_part : (p : Level S F) → p ≡ l → SeekApart old-kept old (Ok (Some (next.Part p))) mid ls
     apart_part p same first parts given found s =
         let t = at_level old-kept old mid mid l left ls ls is f first parts given found s in
-        let d = led_alike steps rest before void like ends budget most first parts [] (l ∷ ls ++ given) (ls ++ l ∷ given) t.0 found (given_away steps budget l ls given) t.1 in
-        subst (λ (z : Level S F). Searched first parts mid (ls ++ z ∷ given) found) (sym same) (t.0, d, t.2)
+        let d = led_alike steps rest before void like ends budget most first parts t.1 [] (l ∷ ls ++ given) (ls ++ l ∷ given) t.0 found (given_away steps budget l ls given) t.2 in
+        subst (λ (z : Level S F). Searched first parts mid (ls ++ z ∷ given) found) (sym same) (t.0, t.1, d, t.3, t.4)
 
     pub apart_run : (e : Ended S) → Turn l mid ls (Ok (Some e)) kept new → SeekApart old-kept old (Ok (Some (next.Run e))) kept new
     apart_run e t first parts given found s = t first parts given found (at_level old-kept old mid kept l left ls new is f first parts given found s)

@@ -4,14 +4,14 @@ use Rattle.mr_explore_search.specs.Steps.{Goes, Steps}
 use Rattle.mr_explore_search.specs.Laws.{In}
 use Rattle.mr_explore_alike.specs.Leaving.{Here}
 use Rattle.mr_explore_places.specs.Places.{Befalls, Comes, DepartsByFault, DepartsLate, IsBeyond, IsWithin, behind_fault, behind_owed, behind_step, if_befallen, if_owed, made_of}
-use Rattle.mr_explore_places.specs.Levels.{AreFaultsOf, AreLateOf, IsLeft, LeadAlike, LeadsTo, laid, with_begun, with_faults, with_late}
+use Rattle.mr_explore_places.specs.Levels.{AreFaultsOf, AreLateOf, IsLeft, IsOnTrail, IsOnTrails, LeadAlike, LeadsTo, laid, trail_of, with_begun, with_faults, with_late}
 use Rattle.mr_explore_places.specs.Going.{GoesTo}
 use Rattle.mr_explore_places.specs.declared.level.Level.{Level}
 use Rattle.mr_explore_places.specs.declared.level.Level.TheVariants as level
 use Rattle.mr_explore_places.specs.declared.level.Coming.{Coming}
 use Rattle.mr_explore_places.specs.declared.level.Trying.{Trying}
 use Rattle.mr_explore_places.proofs.Lists.{same_some}
-use Rattle.mr_explore_places.proofs.Within.{no_faults, no_late, same_goes}
+use Rattle.mr_explore_places.proofs.Within.{has_trail, no_faults, no_late, same_goes, trail_has}
 
 none_or_some : {A : Type 0} (x : A) (o : Option A) → o ≡ None → o ≡ Some x → ⊥
 none_or_some x o n s = cc
@@ -45,37 +45,70 @@ module _ {S F : Type 0} (steps : Steps S F) (budget : ℕ) where
     by (inl j) = inl (inr j)
     by (inr j) = inr j
 
-  both_ways : (old new : List (Level S F)) → ((x : Here S F) → Left old x → Left new x) → ((x : Here S F) → Left new x → Left old x) → Alike old new
-  both_ways old new f g = λ x. (f x, g x)
+  abbrev OnTrails : List (Level S F) → Here S F → Type 0
+  OnTrails ls x = IsOnTrails steps budget ls x
+
+  pub trails_here : (ls given : List (Level S F)) (x : Here S F) → OnTrails ls x → OnTrails (ls ++ given) x
+  trails_here [] given x i = absurd i
+  trails_here (l ∷ ls) given x (inl i) = inl i
+  trails_here (l ∷ ls) given x (inr i) = inr (trails_here ls given x i)
+
+  pub trails_behind : (ls given : List (Level S F)) (x : Here S F) → OnTrails given x → OnTrails (ls ++ given) x
+  trails_behind [] given x i = i
+  trails_behind (l ∷ ls) given x i = inr (trails_behind ls given x i)
+
+  pub trails_either : (ls given : List (Level S F)) (x : Here S F) → OnTrails (ls ++ given) x → OnTrails ls x ⊎ OnTrails given x
+  trails_either [] given x i = inr i
+  trails_either (l ∷ ls) given x (inl i) = inl (inl i)
+  trails_either (l ∷ ls) given x (inr i) = by (trails_either ls given x i) where
+    by : OnTrails ls x ⊎ OnTrails given x → OnTrails (l ∷ ls) x ⊎ OnTrails given x
+    by (inl j) = inl (inr j)
+    by (inr j) = inr j
+
+  both_ways : (old new : List (Level S F)) → ((x : Here S F) → Left old x → Left new x) → ((x : Here S F) → Left new x → Left old x) → ((x : Here S F) → OnTrails new x → OnTrails old x) → Alike old new
+  both_ways old new f g t = record { leads = λ x. (f x, g x); trails = t }
 
   pub alike_through : (old mid new : List (Level S F)) → Alike old mid → Alike mid new → Alike old new
-  alike_through old mid new e f = both_ways old new (λ x i. (f x).0 ((e x).0 i)) (λ x i. (e x).1 ((f x).1 i))
+  alike_through old mid new e f = both_ways old new (λ x i. (f.leads x).0 ((e.leads x).0 i)) (λ x i. (e.leads x).1 ((f.leads x).1 i)) (λ x i. e.trails x (f.trails x i))
 
   -- behind one more
   pub alike_behind : (l : Level S F) (old new : List (Level S F)) → Alike old new → Alike (l ∷ old) (l ∷ new)
-  alike_behind l old new e = both_ways (l ∷ old) (l ∷ new) to from where
+  alike_behind l old new e = both_ways (l ∷ old) (l ∷ new) to from trails where
     to : (x : Here S F) → Left (l ∷ old) x → Left (l ∷ new) x
     to x (inl i) = inl i
-    to x (inr i) = inr ((e x).0 i)
+    to x (inr i) = inr ((e.leads x).0 i)
 
     from : (x : Here S F) → Left (l ∷ new) x → Left (l ∷ old) x
     from x (inl i) = inl i
-    from x (inr i) = inr ((e x).1 i)
+    from x (inr i) = inr ((e.leads x).1 i)
+
+    trails : (x : Here S F) → OnTrails (l ∷ new) x → OnTrails (l ∷ old) x
+    trails x (inl i) = inl i
+    trails x (inr i) = inr (e.trails x i)
 
   -- in front of those that are given away
   pub alike_given : (old new given : List (Level S F)) → Alike old new → Alike (old ++ given) (new ++ given)
-  alike_given old new given e = both_ways (old ++ given) (new ++ given) (λ x i. to x (left_either old given x i)) (λ x i. from x (left_either new given x i)) where
+  alike_given old new given e = both_ways (old ++ given) (new ++ given) (λ x i. to x (left_either old given x i)) (λ x i. from x (left_either new given x i)) (λ x i. trails x (trails_either new given x i)) where
     to : (x : Here S F) → Left old x ⊎ Left given x → Left (new ++ given) x
-    to x (inl i) = left_here new given x ((e x).0 i)
+    to x (inl i) = left_here new given x ((e.leads x).0 i)
     to x (inr i) = left_behind new given x i
 
     from : (x : Here S F) → Left new x ⊎ Left given x → Left (old ++ given) x
-    from x (inl i) = left_here old given x ((e x).1 i)
+    from x (inl i) = left_here old given x ((e.leads x).1 i)
     from x (inr i) = left_behind old given x i
+
+    trails : (x : Here S F) → OnTrails new x ⊎ OnTrails given x → OnTrails (old ++ given) x
+    trails x (inl i) = trails_here old given x (e.trails x i)
+    trails x (inr i) = trails_behind old given x i
 
   -- one that is given away
   pub given_away : (l : Level S F) (ls given : List (Level S F)) → Alike (l ∷ ls ++ given) (ls ++ l ∷ given)
-  given_away l ls given = both_ways (l ∷ ls ++ given) (ls ++ l ∷ given) to (λ x i. back x (left_either ls (l ∷ given) x i)) where
+  given_away l ls given = both_ways (l ∷ ls ++ given) (ls ++ l ∷ given) to (λ x i. back x (left_either ls (l ∷ given) x i)) (λ x i. trails x (trails_either ls (l ∷ given) x i)) where
+    trails : (x : Here S F) → OnTrails ls x ⊎ OnTrails (l ∷ given) x → OnTrails (l ∷ ls ++ given) x
+    trails x (inl j) = inr (trails_here ls given x j)
+    trails x (inr (inl j)) = inl j
+    trails x (inr (inr j)) = inr (trails_behind ls given x j)
+
     rest : (x : Here S F) → Left ls x ⊎ Left given x → Left (ls ++ l ∷ given) x
     rest x (inl j) = left_here ls (l ∷ given) x j
     rest x (inr j) = left_behind ls (l ∷ given) x (inr j)
@@ -91,14 +124,18 @@ module _ {S F : Type 0} (steps : Steps S F) (budget : ℕ) where
 
   -- a level that leads nowhere goes
   pub goes_nowhere : (l : Level S F) (old : List (Level S F)) → ((x : Here S F) → LeadsTo steps budget l x → ⊥) → Alike (l ∷ old) old
-  goes_nowhere l old f = both_ways (l ∷ old) old to (λ x i. inr i) where
+  goes_nowhere l old f = both_ways (l ∷ old) old to (λ x i. inr i) (λ x i. inr i) where
     to : (x : Here S F) → Left (l ∷ old) x → Left old x
     to x (inl i) = absurd (f x i)
     to x (inr i) = i
 
   -- a level leads where these do
-  leads_on : (l m : Level S F) (old : List (Level S F)) → ((x : Here S F) → LeadsTo steps budget l x → LeadsTo steps budget m x) → ((x : Here S F) → LeadsTo steps budget m x → LeadsTo steps budget l x) → Alike (l ∷ old) (m ∷ old)
-  leads_on l m old f g = both_ways (l ∷ old) (m ∷ old) to from where
+  leads_on : (l m : Level S F) (old : List (Level S F)) → ((x : Here S F) → LeadsTo steps budget l x → LeadsTo steps budget m x) → ((x : Here S F) → LeadsTo steps budget m x → LeadsTo steps budget l x) → ((x : Here S F) → IsOnTrail steps budget m x → IsOnTrail steps budget l x) → Alike (l ∷ old) (m ∷ old)
+  leads_on l m old f g t = both_ways (l ∷ old) (m ∷ old) to from trails where
+    trails : (x : Here S F) → OnTrails (m ∷ old) x → OnTrails (l ∷ old) x
+    trails x (inl i) = inl (t x i)
+    trails x (inr i) = inr i
+
     to : (x : Here S F) → Left (l ∷ old) x → Left (m ∷ old) x
     to x (inl i) = inl (f x i)
     to x (inr i) = inr i
@@ -138,7 +175,7 @@ module _ {S F : Type 0} (steps : Steps S F) (budget : ℕ) where
 
   pub tried_further : (l : Trying S F) (old : List (Level S F)) (p : Here S F) (fs : List F) (m : ℕ) → l.faults ≡ [] → l.beyond ≡ suc m → GoesTo steps l.place true p → fs ≡ steps.faults p.run
       → Alike (level.Faults l ∷ old) (level.Faults (record { place = p; faults = fs; beyond = m }) ∷ old)
-  tried_further l old p fs m none more w e = leads_on (level.Faults l) (level.Faults (record { place = p; faults = fs; beyond = m })) old (λ x i. told x (to x i)) (λ x i. inr (from x (untold x i))) where
+  tried_further l old p fs m none more w e = leads_on (level.Faults l) (level.Faults (record { place = p; faults = fs; beyond = m })) old (λ x i. told x (to x i)) (λ x i. inr (from x (untold x i))) (λ x i. inr (beyond_back (λ h. h ≡ x) l.beyond m l.place p w.0 more w.1 w.2 i)) where
     to : (x : Here S F) → LeadsTo steps budget (level.Faults l) x → IsWithin steps (DepartsByFault steps budget x) (suc m) p
     to x (inl d) = absurd (none_of d.0 l.faults none d.2)
     to x (inr i) = beyond_on (DepartsByFault steps budget x) l.beyond m l.place p w.0 more w.1 w.2 i
@@ -165,7 +202,7 @@ module _ {S F : Type 0} (steps : Steps S F) (budget : ℕ) where
       → Alike (level.Faults (record l { faults = f ∷ l.faults }) ∷ old) (with_begun child (level.Faults l ∷ old))
   tried_one l f old child few is = subst (λ (z : Option (Here S F)). Alike (level.Faults (record l { faults = f ∷ l.faults }) ∷ old) (with_begun z (level.Faults l ∷ old))) (sym is) (by (steps.befallen f l.place.run) refl) where
     by : (b : Option S) → steps.befallen f l.place.run ≡ b → Alike (level.Faults (record l { faults = f ∷ l.faults }) ∷ old) (with_begun (made_of steps (behind_fault steps l.place f) b) (level.Faults l ∷ old))
-    by None w = leads_on (level.Faults (record l { faults = f ∷ l.faults })) (level.Faults l) old to from where
+    by None w = leads_on (level.Faults (record l { faults = f ∷ l.faults })) (level.Faults l) old to from (λ x i. i) where
       one : (x : Here S F) (d : Befalls steps budget (f ∷ l.faults) l.place x) → (f ≡ d.0) ⊎ In d.0 l.faults → LeadsTo steps budget (level.Faults l) x
       one x d (inl e) = absurd (none_or_some d.1 (steps.befallen f l.place.run) w (subst (λ (z : F). steps.befallen z l.place.run ≡ Some d.1) (sym e) d.4))
       one x d (inr i) = inl (d.0, d.1, i, d.3, d.4, d.5)
@@ -177,7 +214,12 @@ module _ {S F : Type 0} (steps : Steps S F) (budget : ℕ) where
       from : (x : Here S F) → LeadsTo steps budget (level.Faults l) x → LeadsTo steps budget (level.Faults (record l { faults = f ∷ l.faults })) x
       from x (inl d) = inl (d.0, d.1, inr d.2, d.3, d.4, d.5)
       from x (inr i) = inr i
-    by (Some t) w = both_ways (level.Faults (record l { faults = f ∷ l.faults }) ∷ old) (level.Begin (behind_fault steps l.place f t) ∷ level.Faults l ∷ old) to from where
+    by (Some t) w = both_ways (level.Faults (record l { faults = f ∷ l.faults }) ∷ old) (level.Begin (behind_fault steps l.place f t) ∷ level.Faults l ∷ old) to from trails where
+      trails : (x : Here S F) → OnTrails (level.Begin (behind_fault steps l.place f t) ∷ level.Faults l ∷ old) x → OnTrails (level.Faults (record l { faults = f ∷ l.faults }) ∷ old) x
+      trails x (inl i) = absurd i
+      trails x (inr (inl i)) = inl i
+      trails x (inr (inr i)) = inr i
+
       one : (x : Here S F) (d : Befalls steps budget (f ∷ l.faults) l.place x) → (f ≡ d.0) ⊎ In d.0 l.faults → Left (level.Begin (behind_fault steps l.place f t) ∷ level.Faults l ∷ old) x
       one x d (inl e) =
           let got : steps.befallen f l.place.run ≡ Some d.1 = subst (λ (z : F). steps.befallen z l.place.run ≡ Some d.1) (sym e) d.4 in
@@ -217,7 +259,7 @@ module _ {S F : Type 0} (steps : Steps S F) (budget : ℕ) where
 
   pub came_further : (l : Coming S F) (old : List (Level S F)) (p : Here S F) (late m : ℕ) → l.late ≡ 0 → l.beyond ≡ suc m → GoesTo steps l.place true p → late ≡ p.ripe
       → Alike (level.Late l ∷ old) (level.Late (record { place = p; late = late; beyond = m }) ∷ old)
-  came_further l old p late m none more w e = leads_on (level.Late l) (level.Late (record { place = p; late = late; beyond = m })) old (λ x i. told x (to x i)) (λ x i. inr (from x (untold x i))) where
+  came_further l old p late m none more w e = leads_on (level.Late l) (level.Late (record { place = p; late = late; beyond = m })) old (λ x i. told x (to x i)) (λ x i. inr (from x (untold x i))) (λ x i. i) where
     to : (x : Here S F) → LeadsTo steps budget (level.Late l) x → IsWithin steps (DepartsLate steps x) (suc m) p
     to x (inl d) = absurd (come_none l x none d)
     to x (inr i) = beyond_on (DepartsLate steps x) l.beyond m l.place p w.0 more w.1 w.2 i
@@ -258,7 +300,7 @@ module _ {S F : Type 0} (steps : Steps S F) (budget : ℕ) where
 
     -- where nothing comes of the last one
     nothing : ((x : Here S F) (d : Comes steps l.late l.place x) → at ≡ d.0 → ⊥) → Alike (level.Late l ∷ old) (level.Late m ∷ old)
-    nothing f = leads_on (level.Late l) (level.Late m) old to from where
+    nothing f = leads_on (level.Late l) (level.Late m) old to from (λ x i. i) where
       one : (x : Here S F) (d : Comes steps l.late l.place x) → (d.0 < at) ⊎ (at ≡ d.0) → LeadsTo steps budget (level.Late m) x
       one x d (inl less) = inl (d.0, d.1, d.2, less, d.4, d.5, d.6)
       one x d (inr e) = absurd (f x d e)
@@ -273,7 +315,12 @@ module _ {S F : Type 0} (steps : Steps S F) (budget : ℕ) where
 
     -- this one comes of it
     begun : (f : F) (t : S) → slice_get l.place.owed at ≡ Some f → steps.befallen f l.place.run ≡ Some t → Alike (level.Late l ∷ old) (level.Begin (behind_owed l.place at t) ∷ level.Late m ∷ old)
-    begun f t g w = both_ways (level.Late l ∷ old) (level.Begin (behind_owed l.place at t) ∷ level.Late m ∷ old) to from where
+    begun f t g w = both_ways (level.Late l ∷ old) (level.Begin (behind_owed l.place at t) ∷ level.Late m ∷ old) to from trails where
+      trails : (x : Here S F) → OnTrails (level.Begin (behind_owed l.place at t) ∷ level.Late m ∷ old) x → OnTrails (level.Late l ∷ old) x
+      trails x (inl i) = absurd i
+      trails x (inr (inl i)) = absurd i
+      trails x (inr (inr i)) = inr i
+
       one : (x : Here S F) (d : Comes steps l.late l.place x) → (d.0 < at) ⊎ (at ≡ d.0) → Left (level.Begin (behind_owed l.place at t) ∷ level.Late m ∷ old) x
       one x d (inl less) = inr (inl (inl (d.0, d.1, d.2, less, d.4, d.5, d.6)))
       one x d (inr e) =
@@ -305,6 +352,18 @@ module _ {S F : Type 0} (steps : Steps S F) (budget : ℕ) where
     by None g = nothing (λ x d e. none_or_some d.1 (slice_get l.place.owed at) g (subst (λ (z : ℕ). slice_get l.place.owed z ≡ Some d.1) (sym e) d.4))
     by (Some f) g = by_befallen f (steps.befallen f l.place.run) g refl
 
+  -- ---- trails
+
+  pub is_in_trail : (l : Level S F) (x : Here S F) → IsOnTrail steps budget l x → In x (trail_of steps budget l)
+  is_in_trail (level.Begin h) x i = absurd i
+  is_in_trail (level.Faults l) x i = trail_has steps (suc l.beyond) l.place x i
+  is_in_trail (level.Late l) x i = absurd i
+
+  pub is_on_trail : (l : Level S F) (x : Here S F) → In x (trail_of steps budget l) → IsOnTrail steps budget l x
+  is_on_trail (level.Begin h) x i = absurd i
+  is_on_trail (level.Faults l) x i = has_trail steps (suc l.beyond) l.place x i
+  is_on_trail (level.Late l) x i = absurd i
+
   -- ---- what is left of places that were made
 
   -- in words of their run
@@ -321,16 +380,22 @@ module _ {S F : Type 0} (steps : Steps S F) (budget : ℕ) where
   laid_of zero h ls x (inr (inr i)) = i
   laid_of (suc n) h ls x i = i
 
+  pub on_laid : (n : ℕ) (h : Here S F) (ls : List (Level S F)) (x : Here S F) → IsWithin steps (λ z. z ≡ x) n h ⊎ OnTrails ls x → OnTrails (laid steps budget n h ls) x
+  on_laid zero h ls x (inl i) = absurd i
+  on_laid zero h ls x (inr i) = i
+  on_laid (suc n) h ls x (inl i) = inl i
+  on_laid (suc n) h ls x (inr i) = inr (inr i)
+
   -- the faults of a run that may have no more need not be left, nor what was put off in one of which nothing was
   faults_as : (n : ℕ) (h : Here S F) (ls : List (Level S F)) (trying : Option (Trying S F)) → AreFaultsOf steps budget h trying
       → Alike (level.Faults (record { place = h; faults = steps.faults h.run; beyond = n }) ∷ ls) (with_faults trying n ls)
   faults_as n h ls None all = goes_nowhere (level.Faults (record { place = h; faults = steps.faults h.run; beyond = n })) ls (λ x i. no_faults steps budget (suc n) x h all i)
-  faults_as n h ls (Some l) is = subst (λ (z : Trying S F). Alike (level.Faults (record { place = h; faults = steps.faults h.run; beyond = n }) ∷ ls) (level.Faults (record z { beyond = n }) ∷ ls)) (sym is) (λ x. (λ i. i, λ i. i))
+  faults_as n h ls (Some l) is = subst (λ (z : Trying S F). Alike (level.Faults (record { place = h; faults = steps.faults h.run; beyond = n }) ∷ ls) (level.Faults (record z { beyond = n }) ∷ ls)) (sym is) (record { leads = λ x. (λ i. i, λ i. i); trails = λ x i. i })
 
   late_as : (n : ℕ) (h : Here S F) (ls : List (Level S F)) (coming : Option (Coming S F)) → AreLateOf h coming
       → Alike (level.Late (record { place = h; late = h.ripe; beyond = n }) ∷ ls) (with_late coming n ls)
   late_as n h ls None none = goes_nowhere (level.Late (record { place = h; late = h.ripe; beyond = n })) ls (λ x i. no_late steps (suc n) x h none i)
-  late_as n h ls (Some l) is = subst (λ (z : Coming S F). Alike (level.Late (record { place = h; late = h.ripe; beyond = n }) ∷ ls) (level.Late (record z { beyond = n }) ∷ ls)) (sym is) (λ x. (λ i. i, λ i. i))
+  late_as n h ls (Some l) is = subst (λ (z : Coming S F). Alike (level.Late (record { place = h; late = h.ripe; beyond = n }) ∷ ls) (level.Late (record z { beyond = n }) ∷ ls)) (sym is) (record { leads = λ x. (λ i. i, λ i. i); trails = λ x i. i })
 
   pub laid_as : (n : ℕ) (h : Here S F) (ls : List (Level S F)) (trying : Option (Trying S F)) (coming : Option (Coming S F)) → AreFaultsOf steps budget h trying → AreLateOf h coming
       → Alike (laid steps budget (suc n) h ls) (with_faults trying n (with_late coming n ls))

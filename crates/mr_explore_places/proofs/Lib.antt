@@ -5,6 +5,7 @@ pub mod Leading
 pub mod Doing
 pub mod Slots
 pub mod Trails
+mod Treading
 pub mod Begun
 pub mod Joining
 pub mod Answering

@@ -1,8 +1,9 @@
 -- Places of a run, one behind the other.
-use Rattle.std.proofs.Common.{◌≡◌, ◌≤◌, ◌⊎◌, inl, inr, ℕ, zero, suc, List, [], length, slice_get, Some, sym, ap, subst, arith}
-use Rattle.mr_explore_search.specs.Steps.{Onward, Goes, Steps}
+use Rattle.std.proofs.Common.{◌≡◌, ◌≤◌, ◌⊎◌, inl, inr, ℕ, zero, suc, List, [], length, slice_get, Some, refl, sym, ap, subst, arith}
+use Rattle.mr_explore_search.specs.Steps.{Onward, Goes, Ends, Full, Steps}
 use Rattle.mr_explore_alike.specs.Leaving.{Here}
-use Rattle.mr_explore_places.specs.Places.{DepartsByFault, DepartsLate, IsWithin, behind_step}
+use Rattle.mr_explore_places.specs.Places.{DepartsByFault, DepartsLate, IsWithin, behind_step, further, trail}
+use Rattle.mr_explore_search.specs.Laws.{In}
 use Rattle.mr_explore_places.proofs.Lists.{got_in}
 
 pub same_goes : {S : Type 0} (o : Onward S) (t u : S) → o ≡ Goes t → o ≡ Goes u → t ≡ u
@@ -55,3 +56,19 @@ module _ {S F : Type 0} (steps : Steps S F) where
   no_late zero x h none i = i
   no_late (suc n) x h none (inl d) = got_in [] d.0 d.1 (subst (λ (z : List F). slice_get z d.0 ≡ Some d.1) none d.4)
   no_late (suc n) x h none (inr i) = no_late n x (behind_step h i.0) none i.2
+
+  -- what is on a trail stands in its list, and nothing else does
+  pub trail_has : (n : ℕ) (h x : Here S F) → IsWithin steps (λ z. z ≡ x) n h → In x (trail steps n h)
+  trail_has zero h x i = absurd i
+  trail_has (suc n) h x (inl e) = inl e
+  trail_has (suc n) h x (inr i) = inr (subst (λ (o : Onward S). In x (further steps (λ t. trail steps n (behind_step h t)) o)) (sym i.1) (trail_has n (behind_step h i.0) x i.2))
+
+  pub has_trail : (n : ℕ) (h x : Here S F) → In x (trail steps n h) → IsWithin steps (λ z. z ≡ x) n h
+  has_trail zero h x i = absurd i
+  has_trail (suc n) h x (inl e) = inl e
+  has_trail (suc n) h x (inr i) = by (λ t j. has_trail n (behind_step h t) x j) (steps.onward h.run) refl i where
+    by : ((t : S) → In x (trail steps n (behind_step h t)) → IsWithin steps (λ z. z ≡ x) n (behind_step h t)) → (o : Onward S) → steps.onward h.run ≡ o → In x (further steps (λ t. trail steps n (behind_step h t)) o)
+        → IsWithin steps (λ z. z ≡ x) (suc n) h
+    by f (Goes t) w j = inr (t, w, f t j)
+    by f (Ends t) w j = absurd j
+    by f Full w j = absurd j

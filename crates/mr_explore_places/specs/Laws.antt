@@ -27,5 +27,5 @@ module _ {S F : Type 0} (steps : Steps S F) (rest : S → ℕ) (before : S → S
 
   -- Where some of the parts are done that were given away, what was found of them is put to what was found of the rest. Others are still given away.
   abbrev pub GivenPartsAreJoined : Type 0
-  GivenPartsAreJoined = (bounds : Bounds) (first : S) (parts given some others : List (Level S F)) (found more : List (Found S)) → AreThoseOf given some others → AreThoseOf others given []
+  GivenPartsAreJoined = (bounds : Bounds) (first : S) (parts given some others : List (Level S F)) (found more : List (Found S)) → AreThoseOf given some others → AreThoseOf others given [] → AreThoseOf some given []
       → IsDone steps rest before void like ends bounds first parts given found → IsDone steps rest before void like ends bounds first some [] more → IsDone steps rest before void like ends bounds first parts others (more ++ found)

@@ -2,7 +2,7 @@
 use Rattle.std.specs.Prelude.{◌≡◌, ◌≤◌, ◌⊎◌, ◌↔◌, ℕ, zero, suc, List, [], ◌∷◌, Option, Some, None}
 use Rattle.mr_explore_search.specs.Steps.{Steps}
 use Rattle.mr_explore_alike.specs.Leaving.{Here}
-use Rattle.mr_explore_places.specs.Places.{Befalls, Comes, DepartsByFault, DepartsLate, IsBeyond}
+use Rattle.mr_explore_places.specs.Places.{Befalls, Comes, DepartsByFault, DepartsLate, IsBeyond, IsWithin, trail}
 use Rattle.mr_explore_places.specs.declared.level.Level.{Level}
 use Rattle.mr_explore_places.specs.declared.level.Coming.{Coming}
 use Rattle.mr_explore_places.specs.declared.level.Trying.{Trying}
@@ -20,9 +20,27 @@ module _ {S F : Type 0} (steps : Steps S F) (budget : ℕ) where
   IsLeft [] x = ⊥
   IsLeft (l ∷ ls) x = LeadsTo l x ⊎ IsLeft ls x
 
-  -- they lead to the same places
-  abbrev pub LeadAlike : List (Level S F) → List (Level S F) → Type 0
-  LeadAlike old new = (x : Here S F) → IsLeft old x ↔ IsLeft new x
+  -- The place is one of those along which faults are tried: of a level that has such, the one where it is, or one behind.
+  abbrev pub IsOnTrail : Level S F → Here S F → Type 0
+  IsOnTrail (level.Begin h) x = ⊥
+  IsOnTrail (level.Faults l) x = IsWithin steps (λ h. h ≡ x) (suc l.beyond) l.place
+  IsOnTrail (level.Late l) x = ⊥
+
+  -- one of these levels has it on its trail
+  abbrev pub IsOnTrails : List (Level S F) → Here S F → Type 0
+  IsOnTrails [] x = ⊥
+  IsOnTrails (l ∷ ls) x = IsOnTrail l x ⊎ IsOnTrails ls x
+
+  -- those along which faults are tried
+  abbrev pub trail_of : Level S F → List (Here S F)
+  trail_of (level.Begin h) = []
+  trail_of (level.Faults l) = trail steps (suc l.beyond) l.place
+  trail_of (level.Late l) = []
+
+  -- they lead to the same places, and the new ones have no other trails
+  pub record LeadAlike (old new : List (Level S F)) : Type 0 where
+    pub leads : (x : Here S F) → IsLeft old x ↔ IsLeft new x
+    pub trails : (x : Here S F) → IsOnTrails new x → IsOnTrails old x
 
   -- n places of a run were made, from this one on: what departs from them is left
   abbrev pub laid : ℕ → Here S F → List (Level S F) → List (Level S F)

@@ -1,6 +1,6 @@
 -- Where the runs at made places lead (our own profile).
-use Rattle.std.specs.Prelude.{◌≡◌, ◌<◌, ◌≤◌, ◌⊎◌, ℕ, zero, suc, ◌+◌, List, [], ◌++◌, length, remove, slice_get, Option, Some, None, option_to_list}
-use Rattle.mr_explore_search.specs.Steps.{Goes, Steps}
+use Rattle.std.specs.Prelude.{◌≡◌, ◌<◌, ◌≤◌, ◌⊎◌, ℕ, zero, suc, ◌+◌, List, [], ◌∷◌, ◌++◌, length, remove, slice_get, Option, Some, None, option_to_list}
+use Rattle.mr_explore_search.specs.Steps.{Onward, Goes, Steps}
 use Rattle.mr_explore_search.specs.Runs.{Found}
 use Rattle.mr_explore_search.specs.Laws.{Departs, In}
 use Rattle.mr_explore_alike.specs.Leaving.{Here}
@@ -46,6 +46,16 @@ module _ {S F : Type 0} (steps : Steps S F) where
   -- P holds at one of the first n places behind h
   abbrev pub IsBeyond : (P : Here S F → Type 0) → ℕ → Here S F → Type 0
   IsBeyond P n h = (t : S) × (steps.onward h.run ≡ Goes t) × IsWithin P n (behind_step h t)
+
+  -- the run behind a place, as far as it is told
+  abbrev pub further : (S → List (Here S F)) → Onward S → List (Here S F)
+  further f (Goes t) = f t
+  further f _ = []
+
+  -- the first n places of a run, from this one on
+  abbrev pub trail : ℕ → Here S F → List (Here S F)
+  trail zero h = []
+  trail (suc n) h = h ∷ further (λ t. trail n (behind_step h t)) (steps.onward h.run)
 
   -- it is made of this option, if there is one
   abbrev pub made_of : (S → Here S F) → Option S → Option (Here S F)

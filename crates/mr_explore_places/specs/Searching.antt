@@ -8,7 +8,7 @@ use Rattle.mr_explore_search.specs.declared.fault.WalkFault.{WalkFault}
 use Rattle.mr_explore_alike.specs.Leaving.{Here, IsTaken}
 use Rattle.mr_explore_places.specs.Places.{DepartsByFault, DepartsLate, IsOnItsWay, behind_step}
 use Rattle.mr_explore_places.specs.Going.{Stops}
-use Rattle.mr_explore_places.specs.Levels.{IsLeft, laid}
+use Rattle.mr_explore_places.specs.Levels.{IsLeft, IsOnTrails, laid}
 use Rattle.mr_explore_places.specs.Keeping.{AreMade}
 use Rattle.mr_explore_places.specs.declared.level.Level.{Level}
 use Rattle.mr_explore_places.specs.declared.stores.Stores.{Stores}
@@ -21,20 +21,26 @@ module _ {S F : Type 0} (steps : Steps S F) (rest : S → ℕ) (before : S → S
   abbrev pub WillBeTaken : (next made : List (Here S F)) → Here S F → Type 0
   WillBeTaken next made x = IsTaken steps rest before void like ends made x.faults x.ripe x.owed x.run ⊎ In x next
 
-  -- What a search has done that had these levels before it at first, which are parts of a search from the first run. It made these places, found these runs, and has
-  -- these places next and these levels left. Each place to which a made one leads, or a level of those at first, is taken, or is one of the next, or is left.
-  pub record HasDone (first : S) (parts : List (Level S F)) (next : List (Here S F)) (left : List (Level S F)) (made : List (Here S F)) (found : List (Found S)) : Type 0 where
+  -- What a search has done that had these levels before it at first, which are parts of a search from the first run. It made these places, knows those of others, found
+  -- these runs, and has these places next and these levels left. Each place to which a made one leads, or a level of those at first, is taken, or is one of the next, or is
+  -- left. Each place along which faults are left to be tried is made, or known.
+  pub record HasDone (first : S) (parts : List (Level S F)) (known : List (Here S F)) (next : List (Here S F)) (left : List (Level S F)) (made : List (Here S F)) (found : List (Found S)) : Type 0 where
     pub on_way : (x : Here S F) → IsLeft steps budget left x → IsOnItsWay steps budget most first most x
     pub runs : (r : Found S) → In r found → IsOneBy steps most budget first r
-    pub began : (x : Here S F) → IsLeft steps budget parts x → void x.run ≡ false → WillBeTaken next made x ⊎ IsLeft steps budget left x
-    pub goes : (h : Here S F) (t : S) → In h made → steps.onward h.run ≡ Goes t → WillBeTaken next made (behind_step h t)
+    pub trodden : (x : Here S F) → IsOnTrails steps budget left x → In x (made ++ known)
+    pub began : (x : Here S F) → IsLeft steps budget parts x → void x.run ≡ false → WillBeTaken next (made ++ known) x ⊎ IsLeft steps budget left x
+    pub goes : (h : Here S F) (t : S) → In h made → steps.onward h.run ≡ Goes t → WillBeTaken next (made ++ known) (behind_step h t)
     pub ended : (h : Here S F) (t : S) → In h made → steps.onward h.run ≡ Ends t → In (Run h.faults t) found
-    pub befalls : (h x : Here S F) → In h made → DepartsByFault steps budget x h → void x.run ≡ false → WillBeTaken next made x ⊎ IsLeft steps budget left x
-    pub comes : (h x : Here S F) → In h made → DepartsLate steps x h → void x.run ≡ false → WillBeTaken next made x ⊎ IsLeft steps budget left x
+    pub befalls : (h x : Here S F) → In h made → DepartsByFault steps budget x h → void x.run ≡ false → WillBeTaken next (made ++ known) x ⊎ IsLeft steps budget left x
+    pub comes : (h x : Here S F) → In h made → DepartsLate steps x h → void x.run ≡ false → WillBeTaken next (made ++ known) x ⊎ IsLeft steps budget left x
 
-  -- the same, with any places that were made: those that are kept are among them
+  -- These places are known of the parts: whoever gave them away had made the places along which their faults are tried.
+  abbrev pub AreKnownOf : (parts : List (Level S F)) (known : List (Here S F)) → Type 0
+  AreKnownOf parts known = (x : Here S F) → In x known → IsOnTrails steps budget parts x
+
+  -- the same, with any places that were made, and any that are known of the parts: those that are kept are among them
   abbrev pub HasSearched : (first : S) (parts : List (Level S F)) (kept : Stores S F) (left : List (Level S F)) (found : List (Found S)) → Type 0
-  HasSearched first parts kept left found = (made : List (Here S F)) × HasDone first parts [] left made found × AreMade kept made
+  HasSearched first parts kept left found = (made : List (Here S F)) × (known : List (Here S F)) × HasDone first parts known [] left made found × AreMade kept (made ++ known) × AreKnownOf parts known
 
   -- ---- what the calls promise
 
@@ -49,8 +55,8 @@ module _ {S F : Type 0} (steps : Steps S F) (rest : S → ℕ) (before : S → S
   FollowedTo first parts origin left found (Err f) new = Stops steps budget most first f
 
   abbrev pub Follows : (origin : Here S F) → Stores S F → Result (Trail S) WalkFault → Stores S F → Type 0
-  Follows origin old result new = (first : S) (parts left : List (Level S F)) (made : List (Here S F)) (found : List (Found S)) → IsOnItsWay steps budget most first most origin
-      → HasDone first parts (origin ∷ []) left made found → AreMade old (origin ∷ made) → FollowedTo first parts origin left found result new
+  Follows origin old result new = (first : S) (parts : List (Level S F)) (known : List (Here S F)) (left : List (Level S F)) (made : List (Here S F)) (found : List (Found S)) → IsOnItsWay steps budget most first most origin
+      → HasDone first parts known (origin ∷ []) left made found → AreMade old (origin ∷ made ++ known) → AreKnownOf parts known → FollowedTo first parts origin left found result new
 
   -- a turn was made: a run was found, or none was
   abbrev pub Turned : (first : S) (parts : List (Level S F)) (given : List (Level S F)) (found : List (Found S)) → Result (Option (Ended S)) WalkFault → Stores S F → List (Level S F) → Type 0

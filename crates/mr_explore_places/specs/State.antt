@@ -9,7 +9,7 @@ use Rattle.mr_explore_alike.specs.Leaving.{Here}
 use Rattle.mr_explore_places.specs.Places.{IsOnItsWay, beginning}
 use Rattle.mr_explore_places.specs.Levels.{LeadsTo}
 use Rattle.mr_explore_places.specs.Going.{Stops}
-use Rattle.mr_explore_places.specs.Searching.{HasDone, HasSearched}
+use Rattle.mr_explore_places.specs.Searching.{AreKnownOf, HasDone, HasSearched}
 use Rattle.mr_explore_places.specs.declared.bounds.Bounds.{Bounds}
 use Rattle.mr_explore_places.specs.declared.level.Level.{Level}
 use Rattle.mr_explore_places.specs.declared.level.Level.TheVariants as level
@@ -48,7 +48,7 @@ module _ {S F : Type 0} (steps : Steps S F) (rest : S → ℕ) (before : S → S
 
   -- all that comes of these parts was found, but for what is given away
   abbrev pub IsDone : Bounds → (first : S) → (parts given : List (Level S F)) → List (Found S) → Type 0
-  IsDone bounds first parts given found = (made : List (Here S F)) × HasDone steps rest before void like ends bounds.faults bounds.steps first parts [] given made found
+  IsDone bounds first parts given found = (made : List (Here S F)) × (known : List (Here S F)) × HasDone steps rest before void like ends bounds.faults bounds.steps first parts known [] given made found × AreKnownOf steps rest before void like ends bounds.faults bounds.steps parts known
 
   -- One more run was found, and it is one of the definition; or no run, and then all that is needed was made. Where it is told that a limit would be passed, a run of the
   -- definition would pass it. Behind a fault it stays at it.

@@ -16,7 +16,7 @@
 //! - After a refusal the same refusal is answered, and nothing changes.
 //! - Parts can be given away (`next_apart`), copied (`Part::fork`), and searched by others with places of their own (`of_part`). Where the rest is done, and each part that was given
 //!   away, all is done (`parts_are_joined`). A search can take one part after another (`take_part`), and keeps its places
-//!   (`given_parts_are_joined`).
+//!   (`given_parts_are_joined`). It may keep those along which the faults of its part are tried, too (`keep_trail`): whoever gave the part away made them.
 //!
 //! The search does not promise how many places it leaves out. It ends: behind 2 ^ 64 - 1 turns without a run it answers `Mismatch`.
 //!
@@ -42,6 +42,7 @@ mod place;
 mod run;
 mod search;
 mod stores;
+mod trail;
 mod turn;
 
 pub use bounds::Bounds;

@@ -33,6 +33,13 @@ impl<R: Drop, F: Drop> Part<R, F> {
     }
 
     /// The level that is left to be searched.
+    pub(crate) fn level(&self) -> &Level<R, F>
+        ensures { result.now ≡ self.now }
+    {
+        &self.level
+    }
+
+    /// The same.
     pub(crate) fn into_level(self) -> Level<R, F>
         ensures { result ≡ self }
     {

@@ -12,6 +12,7 @@ use crate::part::{Next, Part};
 use crate::place::Place;
 use crate::run::MarkedRun;
 use crate::stores::Stores;
+use crate::trail::keep_trail;
 use crate::turn::{seek, seek_apart};
 use mr_explore_search::{Ended, WalkFault};
 use std::alloc::{AllocError, Global};
@@ -61,7 +62,7 @@ impl<R: MarkedRun> Search<R> {
         ensures starts { IfOk result (λ search. HasFound R.steps R.rest R.before R.void R.like R.ends bounds run (whole run) [] [] search) }
         ensures fault { IfErr result IsNotFull }
     {
-        let stores = Stores::new(alloc, &bounds)?;
+        let stores = Stores::new(alloc, bounds.rows)?;
         let mut levels = LinkedList::new(alloc);
         levels.push_front(Level::Begin(beginning(alloc, run)))?;
         Ok(Search::over(levels, stores, bounds))
@@ -76,17 +77,17 @@ impl<R: MarkedRun> Search<R> {
         ensures starts { IfOk result (λ search. (first : R) → IsPart R.steps bounds first part → HasFound R.steps R.rest R.before R.void R.like R.ends bounds first (part ∷ []) [] [] search) }
         ensures fault { IfErr result IsNotFull }
     {
-        let stores = Stores::new(alloc, &bounds)?;
+        let stores = Stores::new(alloc, bounds.rows)?;
         let mut levels = LinkedList::new(alloc);
         levels.push_front(part.into_level())?;
         Ok(Search::over(levels, stores, bounds))
     }
 
-    /// A search that has nothing before it, and has found nothing. It fails where there is no memory.
-    pub fn idle(alloc: Global, bounds: Bounds) -> Result<Search<R>, AllocError>
+    /// A search that has nothing before it, and has found nothing. It keeps places in so many rows, whatever its bounds say of them. It fails where there is no memory.
+    pub fn idle(alloc: Global, bounds: Bounds, rows: usize) -> Result<Search<R>, AllocError>
         ensures { IfOk result (λ search. (first : R) → HasFound R.steps R.rest R.before R.void R.like R.ends bounds first [] [] [] search) }
     {
-        let stores = Stores::new(alloc, &bounds)?;
+        let stores = Stores::new(alloc, rows)?;
         let levels = LinkedList::new(alloc);
         Ok(Search::over(levels, stores, bounds))
     }
@@ -103,6 +104,15 @@ impl<R: MarkedRun> Search<R> {
         }
         self.levels.push_front(part.into_level())?;
         Ok(())
+    }
+
+    /// Of a part that it took the places are kept along which its faults are tried: whoever gave the part away made them. It fails where there is no memory, or where a run's own
+    /// call fails; what it keeps then is not told.
+    pub fn keep_trail(&mut self, alloc: Global, part: &Part<R, R::Fault>) -> Result<(), WalkFault>
+        ensures keeps { (bounds : Bounds) (first : R) (parts given : List (Level R R.Fault)) (found : List (Found R)) → HasFound R.steps R.rest R.before R.void R.like R.ends bounds first (part.now ∷ parts) given found self.old → OnOk result (HasFound R.steps R.rest R.before R.void R.like R.ends bounds first (part.now ∷ parts) given found self.new) }
+        ensures fault { IfErr result IsNotFull }
+    {
+        keep_trail(alloc, &mut self.stores, part.level())
     }
 
     /// From here on it keeps none of the places that it kept so far, and gives their memory back. It finds what it would have found else, and perhaps more runs than it needs.

@@ -15,6 +15,12 @@ use std::alloc::{AllocError, Global};
 // A row holds so many places at most.
 const ROW_ROOM: usize = 4;
 
+// Places of runs with more faults than so many lie in rows of their own, since they are far more: among the others they would push these out, and each of those stands for many.
+const FEW: u32 = 1;
+
+// One row of so many is for them.
+const SHARE: usize = 5;
+
 // A run that may have no more faults is looked up behind its last departure and at so many steps from there on: there it mostly meets the run that it departed from, which goes
 // on as if nothing had happened.
 const FIRST_STEPS: u64 = 1;
@@ -42,11 +48,11 @@ pub struct Stores<R, F> {
 }
 
 impl<R: Drop, F: Drop> Stores<R, F> {
-    /// No place is kept. It fails where there is no memory.
-    pub fn new(alloc: Global, bounds: &Bounds) -> Result<Stores<R, F>, AllocError>
+    /// No place is kept; there are so many rows for them. It fails where there is no memory.
+    pub fn new(alloc: Global, rows: usize) -> Result<Stores<R, F>, AllocError>
         ensures { IfOk result (λ stores. (h : Here R F) → IsHeld stores h → ⊥) }
     {
-        let rows = empty_rows(alloc, bounds.rows)?;
+        let rows = empty_rows(alloc, rows)?;
         Ok(Stores { rows })
     }
 
@@ -149,8 +155,21 @@ fn keep_at<R: MarkedRun>(
     keep(&mut row.kept, new)
 }
 
+// In which of so many rows a place with this mark lies, of a run that has had so many faults.
+fn row_of(mark: u64, faults: u32, count: usize) -> Option<usize>
+    ensures { IfSome result (λ at. at < count) }
+{
+    let few = count - count / SHARE;
+    if faults > FEW {
+        let at = row_among(mark, count - few)?;
+        Some(few + at)
+    } else {
+        row_among(mark, few)
+    }
+}
+
 // In which of so many rows a place with this mark lies.
-fn row_of(mark: u64, count: usize) -> Option<usize>
+fn row_among(mark: u64, count: usize) -> Option<usize>
     ensures { IfSome result (λ at. at < count) }
 {
     if count == 0 {
@@ -159,7 +178,7 @@ fn row_of(mark: u64, count: usize) -> Option<usize>
     Some((mark % count as u64) as usize)
 }
 
-// Whether a place of these rows that has this mark stands for this one.
+// Whether a place of these rows that has this mark stands for this one. None with more faults does.
 fn covers_in<R: MarkedRun>(
     alloc: Global,
     rows: &[Row<R, R::Fault>],
@@ -169,7 +188,28 @@ fn covers_in<R: MarkedRun>(
     ensures stands { IfOk result (λ covers. IsTrue covers → OneStandsFor R.before R.like (IsKept rows.now) place.now) }
     ensures fault { IfErr result IsNotFull }
 {
-    match row_of(mark, rows.len()) {
+    if covers_among(alloc, rows, mark, 0, place)? {
+        return Ok(true);
+    }
+    if place.faults > FEW {
+        covers_among(alloc, rows, mark, place.faults, place)
+    } else {
+        Ok(false)
+    }
+}
+
+// The same, of the row in which those of runs with so many faults lie.
+fn covers_among<R: MarkedRun>(
+    alloc: Global,
+    rows: &[Row<R, R::Fault>],
+    mark: u64,
+    faults: u32,
+    place: &Place<R, R::Fault>,
+) -> Result<bool, WalkFault>
+    ensures stands { IfOk result (λ covers. IsTrue covers → OneStandsFor R.before R.like (IsKept rows.now) place.now) }
+    ensures fault { IfErr result IsNotFull }
+{
+    match row_of(mark, faults, rows.len()) {
         Some(at) => covers_at(alloc, rows, at, mark, place),
         None => Ok(false),
     }
@@ -202,7 +242,7 @@ fn keep_in<R: MarkedRun>(
     ensures keeps { OnOk result ((h : Here R R.Fault) → IsKept rows.new.items h → (place.now ≡ h) ⊎ IsKept rows.old.items h) }
     ensures fault { IfErr result IsNotFull }
 {
-    match row_of(mark, rows.len()) {
+    match row_of(mark, place.faults, rows.len()) {
         Some(at) => keep_copy(alloc, rows, at, mark, place),
         None => Ok(()),
     }
@@ -247,6 +287,19 @@ fn visit_last<R: MarkedRun>(
         return Ok(false);
     }
     Ok(true)
+}
+
+/// A place that others made is kept.
+pub fn keep_made<R: MarkedRun>(
+    alloc: Global,
+    stores: &mut Stores<R, R::Fault>,
+    place: &Place<R, R::Fault>,
+) -> Result<(), WalkFault>
+    ensures keeps { OnOk result ((h : Here R R.Fault) → IsHeld stores.new h → (place.now ≡ h) ⊎ IsHeld stores.old h) }
+    ensures fault { IfErr result IsNotFull }
+{
+    let mark = place.run.mark(alloc, &place.owed)?;
+    keep_in(alloc, &mut stores.rows, mark, place)
 }
 
 /// A place is looked up, unless that is not worth its while; where none that is kept stands for it, it may be kept. Whether it has to be made.

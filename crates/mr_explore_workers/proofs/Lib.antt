@@ -1,4 +1,3 @@
 pub mod Lists
 pub mod Sharing
 pub mod Dividing
-pub mod Bounding

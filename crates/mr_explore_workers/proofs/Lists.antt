@@ -78,6 +78,25 @@ module _ {S F : Type 0} (parts : List (Level S F)) where
   pub one_more : (took more : List ℕ) (place : ℕ) (l x : Level S F) → more ≡ took ++ place ∷ [] → slice_get parts place ≡ Some l → In x (parts_at parts more) → (l ≡ x) ⊎ In x (parts_at parts took)
   one_more took more place l x e is h = at-more place l x is took (subst (λ (places : List ℕ). In x (parts_at parts places)) e h)
 
+  in-one : (o : Option (Level S F)) (l x : Level S F) → o ≡ Some l → l ≡ x → In x (option_to_list o)
+  in-one o l x is e = some-in x o (is ∙ ap Some e)
+
+  behind-one : (p : ℕ) (x : Level S F) (more all : List (Level S F)) → (In x more → In x all) → In x (option_to_list (slice_get parts p) ++ more) → In x (option_to_list (slice_get parts p) ++ all)
+  behind-one p x more all f i = by (in_either x (option_to_list (slice_get parts p)) more i) where
+    by : In x (option_to_list (slice_get parts p)) ⊎ In x more → In x (option_to_list (slice_get parts p) ++ all)
+    by (inl j) = in_left x (option_to_list (slice_get parts p)) all j
+    by (inr j) = in_right x (option_to_list (slice_get parts p)) all (f j)
+
+  at-end : (place : ℕ) (l x : Level S F) → slice_get parts place ≡ Some l → (took : List ℕ) → (l ≡ x) ⊎ In x (parts_at parts took) → In x (parts_at parts (took ++ place ∷ []))
+  at-end place l x is [] (inl e) = in_left x (option_to_list (slice_get parts place)) [] (in-one (slice_get parts place) l x is e)
+  at-end place l x is [] (inr i) = absurd i
+  at-end place l x is (p ∷ took) (inl e) = in_right x (option_to_list (slice_get parts p)) (parts_at parts (took ++ place ∷ [])) (at-end place l x is took (inl e))
+  at-end place l x is (p ∷ took) (inr i) = behind-one p x (parts_at parts took) (parts_at parts (took ++ place ∷ [])) (λ j. at-end place l x is took (inr j)) i
+
+  -- and back
+  pub one_of_more : (took more : List ℕ) (place : ℕ) (l x : Level S F) → more ≡ took ++ place ∷ [] → slice_get parts place ≡ Some l → (l ≡ x) ⊎ In x (parts_at parts took) → In x (parts_at parts more)
+  one_of_more took more place l x e is h = subst (λ (places : List ℕ). In x (parts_at parts places)) (sym e) (at-end place l x is took h)
+
   -- what is searched are parts
   one-within : (p : ℕ) (x : Level S F) (more : List (Level S F)) → (In x more → In x parts) → In x (option_to_list (slice_get parts p)) ⊎ In x more → In x parts
   one-within p x more within (inl i) = got_in parts p x (got-in x (slice_get parts p) i)

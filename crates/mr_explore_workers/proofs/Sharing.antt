@@ -21,7 +21,7 @@ use Rattle.mr_explore_noted.specs.Laws.{JoinedHasAll}
 use Rattle.mr_explore_noted.proofs.Lists.{true_and_false}
 use Rattle.mr_explore_noted.proofs.Telling.{tells_none}
 use Rattle.mr_explore_workers.specs.inner.Working.{AreDone, Divides, HasDone, HasDoneOrStops, HasWorked, HaveWorked, Working, parts_at, taken}
-use Rattle.mr_explore_workers.proofs.Lists.{all_at, one_more}
+use Rattle.mr_explore_workers.proofs.Lists.{all_at, one_more, one_of_more}
 
 pub not_stopped : (f : Option WalkFault) → is_some f ≡ false → f ≡ None
 not_stopped None e = refl
@@ -62,15 +62,18 @@ module _ {S F : Type 0} (steps : Steps S F) (rest : S → ℕ) (before : S → S
     nothing-done : IsDone steps rest before void like ends bounds first [] [] []
     nothing-done = (
       [],
+      [],
       record {
         on_way = λ x i. absurd i;
         runs = λ r i. absurd i;
+        trodden = λ x i. absurd i;
         began = λ x i v. absurd i;
         goes = λ h t i w. absurd i;
         ended = λ h t i w. absurd i;
         befalls = λ h x i j v. absurd i;
         comes = λ h x i j v. absurd i;
       },
+      λ x i. absurd i,
     )
 
     -- it has searched nothing yet
@@ -78,6 +81,7 @@ module _ {S F : Type 0} (steps : Steps S F) (rest : S → ℕ) (before : S → S
     none_done s t h is = record {
       done = [];
       shared = λ l i. absurd i;
+      only = λ l i. absurd i;
       searched = ([], h, nothing-done, subst (Tells void end events []) (sym is) (tells_none void end events));
     }
 
@@ -87,8 +91,21 @@ module _ {S F : Type 0} (steps : Steps S F) (rest : S → ℕ) (before : S → S
     part_searched parts mine took more place s new t u l all is at search h = record {
       done = l ∷ h.done;
       shared = λ x i. split x (in_either x (parts_at parts more) mine i);
+      only = only;
       searched = search h.done h.searched (all_at Part parts place l at all);
     } where
+      still : (x : Level S F) → In x (parts_at parts took) ⊎ In x mine → In x (parts_at parts more ++ mine) ⊎ In x []
+      still x (inl i) = inl (in_left x (parts_at parts more) mine (one_of_more parts took more place l x is at (inr i)))
+      still x (inr i) = inl (in_right x (parts_at parts more) mine i)
+
+      as-before : (x : Level S F) → In x (parts_at parts took ++ mine) ⊎ In x [] → In x (parts_at parts more ++ mine) ⊎ In x []
+      as-before x (inl i) = still x (in_either x (parts_at parts took) mine i)
+      as-before x (inr i) = absurd i
+
+      only : (x : Level S F) → In x (l ∷ h.done) → In x (parts_at parts more ++ mine) ⊎ In x []
+      only x (inl e) = inl (in_left x (parts_at parts more) mine (one_of_more parts took more place l x is at (inl e)))
+      only x (inr i) = as-before x (h.only x i)
+
       old : (x : Level S F) → In x h.done ⊎ In x [] → In x (l ∷ h.done) ⊎ In x []
       old x (inl i) = inl (inr i)
       old x (inr i) = absurd i
@@ -132,6 +149,7 @@ module _ {S F : Type 0} (steps : Steps S F) (rest : S → ℕ) (before : S → S
     forgotten-or-stops None mine s new t keeps h = record {
       done = h.done;
       shared = h.shared;
+      only = h.only;
       searched = (h.searched.0, keeps h.done h.searched.0 h.searched.1, h.searched.2, h.searched.3);
     }
     forgotten-or-stops (Some f) mine s new t keeps h = h
@@ -148,8 +166,8 @@ module _ {S F : Type 0} (steps : Steps S F) (rest : S → ℕ) (before : S → S
     pub worked_push : (ws : List (Working S F)) (w : Working S F) → Worked [] w → AllWorked [] ws → AllWorked [] (ws ++ w ∷ [])
     worked_push ws w g h = push ws [] h where
       push : (vs : List (Working S F)) (given : List (Level S F)) → AllWorked given vs → AllWorked given (vs ++ w ∷ [])
-      push [] given e = ([], [], (λ l i. absurd (subst (In l) e i)), (λ l i. absurd i), g, refl)
-      push (v ∷ vs) given k = (k.0, k.1, k.2, k.3, k.4, push vs k.1 k.5)
+      push [] given e = ([], [], (λ l i. absurd (subst (In l) e i)), (λ l i. absurd i), g, refl, λ l i. absurd i)
+      push (v ∷ vs) given k = (k.0, k.1, k.2, k.3, k.4, push vs k.1 k.5, k.6)
 
     -- no worker has searched anything
     pub none_yet : (ws : List (Working S F)) → ws ≡ [] → AllWorked [] ws
@@ -179,6 +197,16 @@ module _ {S F : Type 0} (steps : Steps S F) (rest : S → ℕ) (before : S → S
       by (inl j) = inl (in_left x (some ++ more) given (in_right x some more j))
       by (inr j) = of-old (f x j)
 
+    mine-taken : (mine given some more : List (Level S F)) → Are mine given [] → Are (some ++ mine) ((some ++ more) ++ given) []
+    mine-taken mine given some more f x i = by (in_either x some mine i) where
+      of-old : In x given ⊎ In x [] → In x ((some ++ more) ++ given) ⊎ In x []
+      of-old (inl j) = inl (in_right x (some ++ more) given j)
+      of-old (inr j) = absurd j
+
+      by : In x some ⊎ In x mine → In x ((some ++ more) ++ given) ⊎ In x []
+      by (inl j) = inl (in_left x (some ++ more) given (in_left x some more j))
+      by (inr j) = of-old (f x j)
+
     -- behind a round, in which each of them searched some of these parts
     pub all_worked : (parts : List (Level S F)) (ws new : List (Working S F)) (given : List (Level S F)) → length ws ≡ length new
         → ((i : ℕ) (d : Working S F) → i < length ws → (mine : List (Level S F)) → Worked mine (get_or ws i d) → Worked (parts_at parts (get_or new i d).took ++ mine) (get_or new i d))
@@ -193,6 +221,7 @@ module _ {S F : Type 0} (steps : Steps S F) (rest : S → ℕ) (before : S → S
       others-taken h.1 given (parts_at parts v.took) (taken parts new) h.3,
       works 0 w (omega arith) h.0 h.4,
       all_worked parts ws new h.1 (omega arith) (λ i d few. works (suc i) d (omega arith)) h.5,
+      mine-taken h.0 given (parts_at parts v.took) (taken parts new) h.6,
     )
 
     -- of as many parts
@@ -204,7 +233,7 @@ module _ {S F : Type 0} (steps : Steps S F) (rest : S → ℕ) (before : S → S
         by : In l some ⊎ In l [] → ⊥
         by (inl i) = subst (In l) h i
         by (inr i) = i
-    worked_as some others (w ∷ ws) f g h = (h.0, h.1, (λ x i. to x (f x i)), (λ x i. from x (h.3 x i)), h.4, h.5) where
+    worked_as some others (w ∷ ws) f g h = (h.0, h.1, (λ x i. to x (f x i)), (λ x i. from x (h.3 x i)), h.4, h.5, λ x i. from x (h.6 x i)) where
       to : (x : Level S F) → In x some ⊎ In x [] → In x h.0 ⊎ In x h.1
       to x (inl i) = h.2 x i
       to x (inr i) = absurd i
@@ -238,7 +267,11 @@ module _ {S F : Type 0} (steps : Steps S F) (rest : S → ℕ) (before : S → S
     one-joined law one t w ws e h =
         let d = worked_done h.2.0 w e h.2.4 in
         let u : HasAll steps rest before void like ends end events bounds first d.done [] w.table = (d.searched.0, d.searched.2, d.searched.3) in
-        (h.2.1, law bounds first (whole first) h.0 d.done h.2.1 t w.table one (λ l i. by h.2.0 h.2.1 d.done d.shared l (h.2.2 l i)) h.2.3 h.1 u, h.2.5) where
+        (h.2.1, law bounds first (whole first) h.0 d.done h.2.1 t w.table one (λ l i. by h.2.0 h.2.1 d.done d.shared l (h.2.2 l i)) h.2.3 (λ l i. through h.2.0 h.0 h.2.6 l (d.only l i)) h.1 u, h.2.5) where
+          through : (mine given : List (Level S F)) → Are mine given [] → (l : Level S F) → In l mine ⊎ In l [] → In l given ⊎ In l []
+          through mine given f l (inl i) = f l i
+          through mine given f l (inr i) = absurd i
+
           by : (mine others done : List (Level S F)) → Are mine done [] → (l : Level S F) → In l mine ⊎ In l others → In l done ⊎ In l others
           by mine others done f l (inl i) = of-mine (f l i) where
             of-mine : In l done ⊎ In l [] → In l done ⊎ In l others

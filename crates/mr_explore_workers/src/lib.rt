@@ -15,10 +15,10 @@
 //!
 //! # Choices
 //!
-//! - **Threads share the parts of a round, which they only read, and the number of the next one.** A worker keeps its table from round to round. The rows in
-//!   which places are kept are divided among the search and the workers, so the memory does not grow with their number. mr_explore_places keeps only places of
-//!   runs that may have one more fault, and in a part none may: so a worker's rows stay empty. Four threads make half again as many events as where each keeps
-//!   the places along its part's run (tried without a proof).
+//! - **Threads share the parts of a round, which they only read, and the number of the next one.** A worker keeps its table from round to round. The workers
+//!   divide rows among them in which they keep places, a quarter as many as the search has, so the memory does not grow with their number.
+//! - **A worker keeps the places along the run of each part** that it takes (`keep_trail` of mr_explore_places). They were made by the search that gave the part
+//!   away, and most of what comes of the part's faults soon goes on as that run does.
 //! - **Rounds.** The search gives away 128 parts for each worker. Whoever is free copies the next one and searches it, since one part may cost many times what
 //!   another one does. Runs that the search meets while it looks for parts are noted at once.
 //! - **A worker tells which parts it searched**, by their places. Behind the round each place has to be told, or that is a mismatch: nothing is known of a number
@@ -34,8 +34,7 @@
 //! - `HasWorked` (`specs/inner/Working`): a worker has searched these parts, or has stopped. `work` adds those that it tells. So behind a round the
 //!   workers have searched what they had, and the parts of the round (`taken`).
 //! - Lists of parts are compared by `AreThoseOf` of mr_explore_places: no part need stand there once.
-//! - `proofs/Sharing` is of workers, `proofs/Lists` of which parts they tell, `proofs/Dividing` of the search that gives parts away, and `proofs/Bounding`
-//!   says that it is no matter how many rows are kept.
+//! - `proofs/Sharing` is of workers, `proofs/Lists` of which parts they tell, and `proofs/Dividing` of the search that gives parts away.
 //! - The closure of `work_all` states its clause: one without a clause says nothing that an answer can name.
 #![tactic(auto)]
 

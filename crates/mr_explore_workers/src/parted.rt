@@ -22,7 +22,7 @@ use std::sync::atomic::AtomicUsize;
 use std::thread;
 use std::thread::Threads;
 
-/// The least runs to the ends of all runs that come of this one, as far as the bounds say, by so many threads. These divide the rows among them in which places are kept.
+/// The least runs to the ends of all runs that come of this one, as far as the bounds say, by so many threads.
 ///
 /// One thread makes all runs where fewer than two are asked for, or where a run has one fault at most. Where no thread can be made, the calling one does its work. Its
 /// refusals are those of `least_runs`.
@@ -43,21 +43,8 @@ where
     if threads < 2 || bounds.faults < 2 {
         least_runs(alloc, run, bounds, observer)
     } else {
-        let each = divided(&bounds, threads);
-        let mut search = Search::new(alloc, run, each)?;
-        search_in_parts(rt, alloc, threads, &mut search, &each, observer)
-    }
-}
-
-// The rows are divided among so many threads.
-fn divided(bounds: &Bounds, threads: usize) -> Bounds
-    ensures faults { result.faults ≡ bounds.now.faults }
-    ensures steps { result.steps ≡ bounds.now.steps }
-{
-    let threads = threads.max(1);
-    Bounds {
-        rows: bounds.rows / threads,
-        ..*bounds
+        let mut search = Search::new(alloc, run, bounds)?;
+        search_in_parts(rt, alloc, threads, &mut search, &bounds, observer)
     }
 }
 

@@ -17,7 +17,10 @@ use std::alloc::{AllocError, Global};
 // A round has so many parts for each worker.
 const PARTS: usize = 128;
 
-/// So many workers, which have searched nothing yet.
+// All workers together have one row for places where the search has so many: a worker needs no more than those of the parts that it searched last.
+const SHARE: usize = 4;
+
+/// So many workers, which have searched nothing yet. They divide the rows among them in which they keep places.
 pub fn workers_for<R: NotedRun>(
     alloc: Global,
     threads: usize,
@@ -25,9 +28,10 @@ pub fn workers_for<R: NotedRun>(
 ) -> Result<Vec<Worker<R>>, AllocError>
     ensures { IfOk result (λ workers. (first : R) → HaveWorked R.steps R.rest R.before R.void R.like R.ends R.end R.events bounds.now first [] workers.items) }
 {
+    let rows = bounds.rows / SHARE / threads.max(1);
     let mut workers = Vec::new(alloc);
     for _ in 0..threads {
-        let worker = Worker::new(alloc, bounds)?;
+        let worker = Worker::new(alloc, bounds, rows)?;
         workers.push(worker)?;
     }
     Ok(workers)

@@ -5,7 +5,7 @@ ghost use Rattle.mr_explore_places.specs.Going.{Stops};
 ghost use Rattle.mr_explore_places.specs.State.{IsPart};
 ghost use Rattle.mr_explore_places.specs.declared.bounds.Bounds as places;
 ghost use Rattle.mr_explore_places.specs.declared.level.Level.{Level};
-ghost use Rattle.mr_explore_noted.specs.Searched.{HasSearched};
+ghost use Rattle.mr_explore_noted.specs.Searched.{HasSearched, IsOnTheWay};
 ghost use Rattle.mr_explore_workers.specs.inner.Working.{HasDone, HasWorked, has_taken, parts_at};
 
 use mr_explore_least::LeastTable;
@@ -36,11 +36,11 @@ impl<R: NotedRun> Model for Worker<R> {
 }
 
 impl<R: NotedRun> Worker<R> {
-    /// A worker that has searched nothing yet, and goes as far as the bounds say. It fails where there is no memory.
-    pub fn new(alloc: Global, bounds: &Bounds) -> Result<Worker<R>, AllocError>
+    /// A worker that has searched nothing yet, and goes as far as the bounds say. It keeps places in so many rows. It fails where there is no memory.
+    pub fn new(alloc: Global, bounds: &Bounds, rows: usize) -> Result<Worker<R>, AllocError>
         ensures { IfOk result (λ worker. (first : R) → HasWorked R.steps R.rest R.before R.void R.like R.ends R.end R.events bounds.now first [] worker) }
     {
-        let search = Search::idle(alloc, *bounds)?;
+        let search = Search::idle(alloc, *bounds, rows)?;
         Ok(Worker {
             search,
             noted: Noted::new(alloc),
@@ -165,23 +165,41 @@ fn search_copy<R: NotedRun>(
         → IfErr result (Stops R.steps bounds.faults bounds.steps first) }
 {
     let copy = part.fork(alloc)?;
-    search_part(alloc, search, noted, copy)
+    search_part(alloc, search, noted, part, copy)
 }
 
-// One part is searched. A search that has not stopped takes a part unless there is no memory.
+// The part is searched, of which this is a copy. A search that has not stopped takes a part unless there is no memory.
 fn search_part<R: NotedRun>(
     alloc: Global,
     search: &mut Search<R>,
     noted: &mut Noted<R>,
-    part: Part<R, R::Fault>,
+    part: &Part<R, R::Fault>,
+    copy: Part<R, R::Fault>,
 ) -> Result<(), WalkFault>
-    ensures all { (bounds : places.Bounds) (first : R) (done : List (Level R R.Fault)) → HasSearched R.steps R.rest R.before R.void R.like R.ends R.end R.events bounds first done [] search.old noted.old → IsPart R.steps bounds first part
-        → OnOk result (HasSearched R.steps R.rest R.before R.void R.like R.ends R.end R.events bounds first (part ∷ done) [] search.new noted.new) }
-    ensures fault { (bounds : places.Bounds) (first : R) (done : List (Level R R.Fault)) → HasSearched R.steps R.rest R.before R.void R.like R.ends R.end R.events bounds first done [] search.old noted.old → IsPart R.steps bounds first part
+    requires { copy ≡ part.now }
+    ensures all { (bounds : places.Bounds) (first : R) (done : List (Level R R.Fault)) → HasSearched R.steps R.rest R.before R.void R.like R.ends R.end R.events bounds first done [] search.old noted.old → IsPart R.steps bounds first part.now
+        → OnOk result (HasSearched R.steps R.rest R.before R.void R.like R.ends R.end R.events bounds first (part.now ∷ done) [] search.new noted.new) }
+    ensures fault { (bounds : places.Bounds) (first : R) (done : List (Level R R.Fault)) → HasSearched R.steps R.rest R.before R.void R.like R.ends R.end R.events bounds first done [] search.old noted.old → IsPart R.steps bounds first part.now
         → IfErr result (Stops R.steps bounds.faults bounds.steps first) }
 {
-    match search.take_part(part) {
-        Ok(()) => note_all(alloc, search, noted, &Unobserved),
+    match search.take_part(copy) {
+        Ok(()) => search_taken(alloc, search, noted, part),
         Err(_) => Err(WalkFault::NoMemory),
     }
+}
+
+// A part that was taken is searched. The places along which its faults are tried are kept first: most that comes of them meets one.
+fn search_taken<R: NotedRun>(
+    alloc: Global,
+    search: &mut Search<R>,
+    noted: &mut Noted<R>,
+    part: &Part<R, R::Fault>,
+) -> Result<(), WalkFault>
+    ensures all { (bounds : places.Bounds) (first : R) (done : List (Level R R.Fault)) → IsOnTheWay R.steps R.rest R.before R.void R.like R.ends R.end R.events bounds first (part.now ∷ done) [] search.old noted.old
+        → OnOk result (HasSearched R.steps R.rest R.before R.void R.like R.ends R.end R.events bounds first (part.now ∷ done) [] search.new noted.new) }
+    ensures fault { (bounds : places.Bounds) (first : R) (done : List (Level R R.Fault)) → IsOnTheWay R.steps R.rest R.before R.void R.like R.ends R.end R.events bounds first (part.now ∷ done) [] search.old noted.old
+        → IfErr result (Stops R.steps bounds.faults bounds.steps first) }
+{
+    search.keep_trail(alloc, part)?;
+    note_all(alloc, search, noted, &Unobserved)
 }

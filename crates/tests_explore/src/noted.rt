@@ -84,7 +84,7 @@ fn parts_are_noted_apart(rt: HostRuntime) {
     let alloc = rt.alloc();
     let bounds = bounds(1, 5);
     let mut search = Search::new(alloc, Trip::new(alloc), bounds).expect(rt, "no search");
-    let mut other = Search::idle(alloc, bounds).expect(rt, "no search");
+    let mut other = Search::idle(alloc, bounds, 4).expect(rt, "no search");
     let mut noted = Noted::new(alloc);
     let mut more = Noted::new(alloc);
     for _ in 0..100 {

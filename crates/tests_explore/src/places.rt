@@ -125,7 +125,7 @@ fn note_by_another(
     mut search: Search<Trial>,
     bounds: Bounds,
 ) -> u64 {
-    let mut other = Search::idle(alloc, bounds).expect(rt, "no search");
+    let mut other = Search::idle(alloc, bounds, bounds.rows).expect(rt, "no search");
     let mut count: u64 = 0;
     for turn in 0..1_000_000_u64 {
         match search.next_apart(alloc).expect(rt, "no run") {
@@ -224,27 +224,43 @@ fn limit_is_told(rt: HostRuntime) {
 fn idle_search_finds_nothing(rt: HostRuntime) {
     let rt = &rt;
     let alloc = rt.alloc();
-    let mut search: Search<Trial> = Search::idle(alloc, bounds(2, 4)).expect(rt, "no search");
+    let mut search: Search<Trial> = Search::idle(alloc, bounds(2, 4), 4).expect(rt, "no search");
     assert!(rt; search.next_run(alloc).expect(rt, "no run").is_none());
     assert!(rt; search.next_apart(alloc).expect(rt, "no run").is_none());
 }
 
-// The least script to each end, as a search notes it that takes all parts of another one, or why there was none.
-fn by_two(alloc: Global, bounds: Bounds) -> Result<Vec<u64>, WalkFault> {
+// The least script to each end, as a search notes it that takes all parts of another one, and how many runs it found of these, or why there was none. It may keep the
+// places along which the faults of the parts are tried.
+fn by_two(alloc: Global, bounds: Bounds, keeps: bool) -> Result<(Vec<u64>, u64), WalkFault> {
     let mut least = Vec::new(alloc);
     for _ in 0..11 {
         least.push(NEVER)?;
     }
     let mut search = Search::new(alloc, first(), bounds)?;
-    let mut other = Search::idle(alloc, bounds)?;
+    let mut other = Search::idle(alloc, bounds, bounds.rows)?;
     for _ in 0..1_000_000 {
         match search.next_apart(alloc)? {
             Some(Next::Run(ended)) => note(&mut least, &ended),
-            Some(Next::Part(part)) => other.take_part(part)?,
+            Some(Next::Part(part)) => take(alloc, &mut other, part, keeps)?,
             None => return with_rest(alloc, least, other),
         }
     }
     Err(WalkFault::Mismatch)
+}
+
+// The search takes a part, and may keep the places along which its faults are tried.
+fn take(
+    alloc: Global,
+    search: &mut Search<Trial>,
+    part: Part<Trial, u32>,
+    keeps: bool,
+) -> Result<(), WalkFault> {
+    let copy = part.fork(alloc)?;
+    search.take_part(copy)?;
+    if keeps {
+        search.keep_trail(alloc, &part)?;
+    }
+    Ok(())
 }
 
 // The same, and what this search finds.
@@ -252,11 +268,11 @@ fn with_rest(
     alloc: Global,
     mut least: Vec<u64>,
     mut search: Search<Trial>,
-) -> Result<Vec<u64>, WalkFault> {
-    for _ in 0..1_000_000 {
+) -> Result<(Vec<u64>, u64), WalkFault> {
+    for count in 0..1_000_000 {
         match search.next_run(alloc)? {
             Some(ended) => note(&mut least, &ended),
-            None => return Ok(least),
+            None => return Ok((least, count)),
         }
     }
     Err(WalkFault::Mismatch)
@@ -270,10 +286,21 @@ const LEAST: [u64; 11] = [
 // Where memory is refused, that is told, and nothing else is. (To be run with each allocation refused in turn.)
 #[test]
 fn refused_memory_is_told(rt: HostRuntime) {
-    match by_two(rt.alloc(), bounds(2, 8)) {
-        Ok(least) => assert!(rt; least.as_slice() == LEAST.as_slice()),
+    match by_two(rt.alloc(), bounds(2, 8), true) {
+        Ok((least, _)) => assert!(rt; least.as_slice() == LEAST.as_slice()),
         Err(fault) => assert!(rt; fault == WalkFault::NoMemory),
     }
+}
+
+// A search that keeps the places along which faults are tried finds the same ends by fewer runs.
+#[test]
+fn trails_are_kept(rt: HostRuntime) {
+    let rt = &rt;
+    let (least, runs) = by_two(rt.alloc(), bounds(2, 64), true).expect(rt, "no runs");
+    let (same, more) = by_two(rt.alloc(), bounds(2, 64), false).expect(rt, "no runs");
+    assert!(rt; least.as_slice() == LEAST.as_slice());
+    assert!(rt; same.as_slice() == LEAST.as_slice());
+    assert!(rt; runs < more);
 }
 
 // A run that is not at its end behind as many steps as are told is a mismatch.

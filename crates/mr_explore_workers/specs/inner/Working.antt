@@ -43,6 +43,7 @@ module _ {S F : Type 0} (steps : Steps S F) (rest : S → ℕ) (before : S → S
   pub record HasDone (bounds : Bounds) (first : S) (mine : List (Level S F)) (s : State S F) (t : Table) : Type 0 where
     pub done : List (Level S F)
     pub shared : AreThoseOf steps rest before void like ends mine done []
+    pub only : AreThoseOf steps rest before void like ends done mine []
     pub searched : HasSearched steps rest before void like ends end events bounds first done [] s t
 
   -- the same; or it has stopped, for a reason of the definition
@@ -57,7 +58,7 @@ module _ {S F : Type 0} (steps : Steps S F) (rest : S → ℕ) (before : S → S
   -- one of the workers has searched each of these parts, or has stopped
   abbrev pub HaveWorked : Bounds → (first : S) → (given : List (Level S F)) → List (Working S F) → Type 0
   HaveWorked bounds first given [] = given ≡ []
-  HaveWorked bounds first given (w ∷ ws) = (mine others : List (Level S F)) × AreThoseOf steps rest before void like ends given mine others × AreThoseOf steps rest before void like ends others given [] × HasWorked bounds first mine w × HaveWorked bounds first others ws
+  HaveWorked bounds first given (w ∷ ws) = (mine others : List (Level S F)) × AreThoseOf steps rest before void like ends given mine others × AreThoseOf steps rest before void like ends others given [] × HasWorked bounds first mine w × HaveWorked bounds first others ws × AreThoseOf steps rest before void like ends mine given []
 
   -- ---- with the search that gives parts away
 
