@@ -16,7 +16,7 @@ use Rattle.mr_explore.specs.Runs.{Exploring}
 use Rattle.mr_explore_likeness.specs.Owed.{AreOneLater}
 use Rattle.mr_explore_likeness.specs.Plays.{IsOnePacket, LikePlays, asking_last, cluster, was_delivered}
 use Rattle.mr_explore_likeness.specs.Runs.{like}
-use Rattle.mr_explore_compared.specs.inner.Compared.{AreComparable, AreDroppedAlike, AreOwedAlike, AreSame, PlayersLookAlike}
+use Rattle.mr_explore_compared.specs.inner.Compared.{AreComparable, AreDroppedAlike, AreOwedAlike, HaveLedAlike, PlayersLookAlike}
 use Rattle.mr_explore_compared.proofs.Came.{each-came, one-before}
 use Rattle.mr_explore_compared.proofs.Dropped.{dropped-alike}
 
@@ -34,15 +34,15 @@ record Found (cfg other : Config) (s t : Played) (o r : List Fault) : Type 0 whe
   launches : launch_count (cluster other t) ≤ launch_count (cluster cfg s)
   owed : AreOneLater (cluster cfg s).bag (cluster other t).bag s.cursor t.cursor o r
 
-found : (p q : Player) (o r : List Fault) → PlayersLookAlike p q → AreOwedAlike p q o r → AreSame p.world q.world → Found p.world.config q.world.config (state_in p) (state_in q) o r
-found p q o r look owed same = record {
-  alike = same.alike;
-  packets = one-before p q look.ahead look.came;
+found : (p q : Player) (o r : List Fault) → PlayersLookAlike p q → AreOwedAlike p q o r → HaveLedAlike p q → Found p.world.config q.world.config (state_in p) (state_in q) o r
+found p q o r look owed led = record {
+  alike = led.same.alike;
+  packets = one-before p q look.ahead led.came;
   dropped = look.dropped;
   stepped = look.stepped;
-  delivered = λ i d. (each-came p q (state_in q).events (state_in p).events look.came i d).1;
+  delivered = λ i d. (each-came p q (state_in q).events (state_in p).events led.came i d).1;
   asking = look.asking;
-  history = same.history;
+  history = led.same.history;
   events = look.no_nearer.events;
   many = look.no_nearer.packets;
   launches = look.no_nearer.launches;
@@ -78,10 +78,10 @@ runs-alike s t o r both same it =
 
 -- the same, by their players
 pub likens : (s t : Exploring) (o r : List Fault) (p q : Player) → p.world.config ≡ s.config → state_in p ≡ s.played → q.world.config ≡ t.config → state_in q ≡ t.played
-    → AreComparable s t → PlayersLookAlike p q → AreOwedAlike p q o r → AreSame p.world q.world → like false s o t r
-likens s t o r p q a b c d both look owed same =
-    let f1 = subst (λ (cfg : Config). Found cfg q.world.config (state_in p) (state_in q) o r) a (found p q o r look owed same) in
+    → AreComparable s t → PlayersLookAlike p q → AreOwedAlike p q o r → HaveLedAlike p q → like false s o t r
+likens s t o r p q a b c d both look owed led =
+    let f1 = subst (λ (cfg : Config). Found cfg q.world.config (state_in p) (state_in q) o r) a (found p q o r look owed led) in
     let f2 = subst (λ (x : Played). Found s.config q.world.config x (state_in q) o r) b f1 in
     let f3 = subst (λ (cfg : Config). Found s.config cfg s.played (state_in q) o r) c f2 in
     let f4 = subst (λ (x : Played). Found s.config t.config s.played x o r) d f3 in
-    runs-alike s t o r both (sym a ∙ (same.config ∙ c)) f4
+    runs-alike s t o r both (sym a ∙ (led.same.config ∙ c)) f4

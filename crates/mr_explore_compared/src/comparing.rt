@@ -4,7 +4,7 @@ ghost use Rattle.mr_play.specs.Players.{cluster_in, state_in};
 ghost use Rattle.mr_explore_search.specs.Steps.{IsNotFull};
 ghost use Rattle.mr_explore_likeness.specs.Plays.{asking_last};
 ghost use Rattle.mr_explore_likeness.specs.Runs.{like};
-ghost use Rattle.mr_explore_compared.specs.inner.Compared.{AreComparable, AreDroppedAlike, AreSame, IsNoNearerIn, MayGoOn, PlayersLookAlike};
+ghost use Rattle.mr_explore_compared.specs.inner.Compared.{AreComparable, AreDroppedAlike, AreSame, HasComeToo, HaveLedAlike, IsNoNearerIn, MayGoOn, PlayersLookAlike};
 
 use crate::deliveries::have_come;
 use crate::dropping::are_dropped_too;
@@ -36,7 +36,7 @@ pub fn is_like(
     if !are_owed_alike(player, owed, beside, other_owed) || !look_alike(player, beside) {
         return Ok(false);
     }
-    are_worlds_same(&player.world, &beside.world)
+    led_alike(player, beside)
 }
 
 // Whether both may go on, and are of one job.
@@ -65,7 +65,7 @@ fn is_same_job(job: JobKind, other: JobKind) -> bool
     job == other
 }
 
-// Whether two plays have the same before them, and the second is nowhere nearer to a limit. Their worlds are not compared.
+// Whether two plays have the same before them, and the second is nowhere nearer to a limit. Where they have led is not compared.
 fn look_alike(player: &Player, beside: &Player) -> bool
     ensures { IsTrue result → PlayersLookAlike player.now beside.now }
 {
@@ -75,15 +75,7 @@ fn look_alike(player: &Player, beside: &Player) -> bool
     if !have_one_ahead(player, beside) || !ask_alike(player, beside) {
         return false;
     }
-    if !are_dropped_alike(player, beside) {
-        return false;
-    }
-    have_come(
-        player,
-        player.world.journal(),
-        beside,
-        beside.world.journal(),
-    )
+    are_dropped_alike(player, beside)
 }
 
 // Whether the second play is nowhere nearer to a limit.
@@ -115,6 +107,29 @@ fn are_dropped_alike(player: &Player, beside: &Player) -> bool
     let (m, n) = (player.cursor() as u64, beside.cursor() as u64);
     are_dropped_too(player.dropped(), m, beside.dropped(), n)
         && are_dropped_too(beside.dropped(), n, player.dropped(), m)
+}
+
+// Whether two plays have led to worlds that are alike, and what came in the first came in the second. Most that differ differ in their worlds.
+fn led_alike(player: &Player, beside: &Player) -> Result<bool, WalkFault>
+    ensures led { IfOk result (λ known. IsTrue known → HaveLedAlike player.now beside.now) }
+    ensures fault { IfErr result IsNotFull }
+{
+    if !are_worlds_same(&player.world, &beside.world)? {
+        return Ok(false);
+    }
+    Ok(has_come_too(player, beside))
+}
+
+// Whether each packet that came in the first play came in the second.
+fn has_come_too(player: &Player, beside: &Player) -> bool
+    ensures { IsTrue result → HasComeToo player.now beside.now }
+{
+    have_come(
+        player,
+        player.world.journal(),
+        beside,
+        beside.world.journal(),
+    )
 }
 
 // Whether two worlds are alike.

@@ -108,7 +108,7 @@ fn number_of(packet: &Packet) -> u64 {
 }
 
 // Of a history each byte of so many counts: all would cost more than all else that counts.
-const STRIDE: usize = 4;
+const STRIDE: usize = 16;
 
 // How far the newest master is, and the histories of all.
 fn of_master(world: &World, first: u64) -> u64 {

@@ -26,7 +26,7 @@ const SHARE: usize = 5;
 const FIRST_STEPS: u64 = 1;
 
 // Further on it is looked up at each step of so many: a look costs as much as some steps.
-const STRIDE: u64 = 8;
+const STRIDE: u64 = 6;
 
 /// A place that is kept, and its mark.
 #[derive(Drop)]

@@ -1,2 +1,3 @@
 pub mod Past_stays
 pub mod Owning
+pub mod Copies

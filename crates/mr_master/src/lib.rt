@@ -32,9 +32,9 @@
 //! - `hear`, `launch`, `expire` and `answer` give exactly the packets that are sent, and then the machine stands for
 //!   what it stood for and this step. After an error it stands for what it stood for. After an error of `expire` it
 //!   is the machine that it was.
-//! - `copy` gives a machine that stands for each past that this one stands for. `keeps_same` is true exactly where two
+//! - `copy` gives a machine that keeps what this one keeps, spare room aside (`Unchanged`). `keeps_same` is true exactly where two
 //!   hold the same, `is_same` where they do for one setting.
-//! - Memory may be taken by `new`, `copy`, `duty` and `reserve`, by each `prepare_..`, and by `hear`, `launch`,
+//! - Memory may be taken by `new`, `copy`, `duty`, `duty_name` and `reserve`, by each `prepare_..`, and by `hear`, `launch`,
 //!   `expire` and `answer`. No other call takes any.
 //! - Only tested: that the calls succeed with ample memory, along a few ways through the phases (`crates/tests_world`).
 #![tactic(auto)]

@@ -2,7 +2,8 @@
 //! `mr_master_state`, and to what hears packets and takes answers.
 ghost use Rattle.std.specs.Prelude.{◌≡◌, ◌↔◌, true, [], ◌∷◌, None, IsTrue, IfOk, IfErr, OnOk, OnErr, unwrap_or};
 ghost use Rattle.std.specs.Option.{is_some};
-ghost use Rattle.mr_master_events.specs.mr_master_state.specs.State.{StandsFor, StandsForSome, Stands, StandsStill, Answers};
+ghost use Rattle.mr_master_events.specs.mr_master_state.specs.State.{StandsFor, StandsForSome, Stands, StandsStill, Unchanged, Answers};
+ghost use Rattle.mr_master_model.specs.Answered.{name_of};
 ghost use Rattle.mr_master_model.specs.Duty.{duty};
 ghost use Rattle.mr_master_model.specs.Past.{Step, Launches, Hears, Expires, Answered, phase_of};
 ghost use Rattle.mr_master_model.specs.Readings.{launch_refusal, expire_refusal, wanted};
@@ -12,14 +13,14 @@ ghost use Rattle.mr_master_events.specs.mr_master_state.specs.Same.{SameMachines
 ghost use Rattle.mr_master_events.specs.Refused.{launch_error};
 
 use mr_ids::TaskId;
-use mr_master_calls::{next_duty, ready_for};
+use mr_master_calls::{next_duty, next_duty_name, ready_for};
 use mr_master_events::mr_master_state::{Machine, Prepared};
 use mr_master_events::mr_master_tables::Duty;
 use mr_master_events::{
     LaunchError, expire_refusal, launch_refusal, no_memory, prepare_expiry, prepare_launch,
     prepare_packet,
 };
-use mr_master_model::{LaunchFault, Phase, Setting, StoreAnswer};
+use mr_master_model::{DutyName, LaunchFault, Phase, Setting, StoreAnswer};
 use mr_packet::{Envelope, Packet};
 use mr_task::TaskFault;
 use std::alloc::{AllocError, Global};
@@ -63,10 +64,9 @@ impl MasterMachine {
         Ok(MasterMachine { machine, passed: 0 })
     }
 
-    /// Another machine, which stands for each past that this one stands for. Spare room is not copied. Where memory
-    /// is refused: an error.
+    /// Another machine, which keeps what this one keeps. Spare room is not copied. Where memory is refused: an error.
     pub fn copy(&self) -> Result<MasterMachine, AllocError>
-        ensures { IfOk result (λ machine. StandsStill self.now machine) }
+        ensures { IfOk result (Unchanged self.now) }
     {
         let machine = self.machine.copy()?;
         Ok(MasterMachine {
@@ -99,6 +99,14 @@ impl MasterMachine {
     }
 }
 
+impl Clone for MasterMachine {
+    ghost is_clone = { Unchanged };
+
+    fn clone(&self) -> Result<MasterMachine, AllocError> {
+        self.copy()
+    }
+}
+
 impl MasterMachine {
     /// The next store call, and what it is for: the first that applies by the table of phases. Where there is none,
     /// there is nothing to do until something is heard or launched, or the master is Ended or Stopped. Where memory
@@ -109,6 +117,14 @@ impl MasterMachine {
     {
         let due = next_duty(&self.machine, self.passed)?;
         Ok(due)
+    }
+
+    /// What the next store call is for (`duty`); none where there is none. Where memory is refused: an error.
+    pub fn duty_name(&self) -> Result<Option<DutyName>, AllocError>
+        ensures { IfOk result (λ name. Answers self.now (λ w past. name_of (duty w (seen w past))) name) }
+    {
+        let name = next_duty_name(&self.machine, self.passed)?;
+        Ok(name)
     }
 
     /// Why `launch` would launch nothing of a task on a node, memory aside: the first that applies.

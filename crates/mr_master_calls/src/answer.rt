@@ -11,7 +11,7 @@ ghost use Rattle.mr_master_state.specs.Passing.{NoneLive};
 ghost use Rattle.mr_master_calls.specs.Placed.{IsPlaced};
 ghost use Rattle.mr_master_state.specs.Prepared.{PlansFor, PlansDue};
 
-use crate::duty::next_duty;
+use crate::duty::next_duty_name;
 use crate::failing::ready_failing;
 use crate::mark::{ready_look, ready_tell};
 use crate::reading::ready_read;
@@ -44,8 +44,8 @@ fn is_due(master: &Machine, passed: usize) -> Result<bool, AllocError>
     requires { NoneLive master.now passed }
     ensures { IfOk result (λ due. Reads master.now (λ w s. is_some (duty w s)) due) }
 {
-    let due = next_duty(master, passed)?;
-    Ok(due.is_some())
+    let name = next_duty_name(master, passed)?;
+    Ok(name.is_some())
 }
 
 // A call is due. The answer of the reading hands on its records.

@@ -1,9 +1,10 @@
 //! The next store call of a master.
 //! While Running it is a bar, else an append or a flush, else COMMIT_STARTED once all reduces are Succeeded. In most
 //! other phases it follows from `work`.
-ghost use Rattle.std.specs.Prelude.{true, IfOk, OnErr};
+ghost use Rattle.std.specs.Prelude.{◌≡◌, true, IfOk, OnErr};
 ghost use Rattle.std.specs.Option.{is_some};
 ghost use Rattle.mr_master_model.specs.Past.{Runs, Fails};
+ghost use Rattle.mr_master_model.specs.Answered.{name_of};
 ghost use Rattle.mr_master_model.specs.Duty.{duty, duty_at};
 ghost use Rattle.mr_master_state.specs.Passing.{NoneLive};
 ghost use Rattle.mr_master_state.specs.State.{Reads};
@@ -32,6 +33,38 @@ pub fn next_duty(master: &Machine, passed: usize) -> Result<Option<Duty>, AllocE
     }
     let due = master.work.duty(&master.setting)?;
     Ok(due)
+}
+
+/// What that call is for. It is made up only where that takes no path.
+pub fn next_duty_name(master: &Machine, passed: usize) -> Result<Option<DutyName>, AllocError>
+    requires { NoneLive master.now passed }
+    ensures { IfOk result (λ name. Reads master.now (λ w s. name_of (duty w s)) name) }
+{
+    if master.work.is_running() {
+        return made_up_name(master, passed);
+    }
+    if let Some(_) = master.work.fails() {
+        return made_up_name(master, passed);
+    }
+    Ok(master.work.duty_name())
+}
+
+// The same, by the call itself.
+fn made_up_name(master: &Machine, passed: usize) -> Result<Option<DutyName>, AllocError>
+    requires { NoneLive master.now passed }
+    ensures { IfOk result (λ name. Reads master.now (λ w s. name_of (duty w s)) name) }
+{
+    let due = next_duty(master, passed)?;
+    Ok(name_of(&due))
+}
+
+fn name_of(due: &Option<Duty>) -> Option<DutyName>
+    ensures { result ≡ name_of due.now }
+{
+    match due {
+        Some(due) => Some(due.name()),
+        None => None,
+    }
 }
 
 fn running_duty(master: &Machine, passed: usize) -> Result<Option<Duty>, AllocError>

@@ -23,4 +23,4 @@ mod table;
 mod takeover;
 
 pub use answer::ready_for;
-pub use duty::next_duty;
+pub use duty::{next_duty, next_duty_name};

@@ -1,6 +1,7 @@
 //! Store calls as duties: that of a committer's line, a look for a mark, the creation of one, the abort of the job.
 ghost use Rattle.std.specs.Prelude.{◌≡◌, true, IfOk, OnErr};
 ghost use Rattle.std.specs.Option.{is_some, option_map, option_copied};
+ghost use Rattle.mr_master_model.specs.Answered.{name_of};
 ghost use Rattle.mr_master_model.specs.Duty.{looks, creates, abort_duty};
 
 use mr_master_model::{DutyName, Setting, StoreCall};
@@ -20,6 +21,16 @@ pub fn of_line(name: DutyName, op: Option<&Op>) -> Result<Option<Duty>, AllocErr
             let op = op.copy()?;
             Ok(Some(Duty::new(name, StoreCall::Names(op))))
         }
+    }
+}
+
+/// What that call is for.
+pub fn name_of_line(name: DutyName, op: Option<&Op>) -> Option<DutyName>
+    ensures { result ≡ name_of (option_map (λ o. record { name = name; call = StoreCall.Names o }) (option_copied op.entry)) }
+{
+    match op {
+        None => None,
+        Some(_) => Some(name),
     }
 }
 

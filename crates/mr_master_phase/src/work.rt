@@ -1,6 +1,7 @@
 //! What the master is at in its phase, with what is left of a committer's table, and the call that is due by it alone.
 ghost use Rattle.std.specs.Prelude.{◌≡◌, true, false, IfOk, OnErr};
 ghost use Rattle.std.specs.Option.{is_some};
+ghost use Rattle.mr_master_model.specs.declared.setting.Setting as setting;
 ghost use Rattle.mr_master_model.specs.Past.{Work, LooksForSuccess, SetsUp, Runs, CommitsJob, Fails, Ends, Stops, phase_of};
 ghost use Rattle.mr_master_model.specs.Readings.{Seen, is_running, is_over};
 ghost use Rattle.mr_master_model.specs.Duty.{duty_at, does, commit_name};
@@ -8,14 +9,14 @@ ghost use Rattle.mr_master_phase.specs.WorkKinds.{is_own, fails_as, is_read, is_
 ghost use Rattle.mr_master_phase.specs.Taking.{winner_of};
 ghost use Rattle.mr_commit.specs.Steps.{next_call};
 ghost use Rattle.mr_commit.specs.Recovery.{recover_task};
-ghost use Rattle.mr_master_model.specs.Answered.{takes_over};
+ghost use Rattle.mr_master_model.specs.Answered.{name_of, takes_over};
 ghost use Rattle.mr_commit.specs.Tables.{setup_job, commit_job};
 
 mod mark;
 mod same;
 mod table;
 
-use crate::duty::{abort_duty, of_line, of_look, of_mark};
+use crate::duty::{abort_duty, name_of_line, of_line, of_look, of_mark};
 use crate::marks::{fail_mark, started_mark, success_mark};
 use mr_commit::{RecoverTask, Step};
 use mr_master_model::{DutyName, Phase, Setting, StoreCall};
@@ -307,6 +308,24 @@ impl Work {
             At::TellsFail => Ok(of_mark(DutyName::Fail, fail_mark(alloc)?)),
             At::AbortsCommit => abort_duty(setting),
             At::Runs | At::Fails(_) | At::Ends(_) | At::Stops => Ok(None),
+        }
+    }
+
+    /// What that call is for. The call is not made up.
+    #[tactic(auto, unfolding(mr_master_model::specs::Duty::duty_at))]
+    pub fn duty_name(&self) -> Option<DutyName>
+        ensures { (w : setting.Setting) (s : Seen) → is_own self.now ≡ true → result ≡ name_of (duty_at w s self.now) }
+    {
+        match &self.at {
+            At::LooksForSuccess | At::LooksForFail | At::LooksForStarted => Some(DutyName::Marks),
+            At::Reads => Some(DutyName::Read),
+            At::SetsUp(step) => name_of_line(DutyName::Setup, step.call()),
+            At::TakesOver { step, .. } => name_of_line(DutyName::Recover, step.call()),
+            At::CommitsJob(step) => name_of_line(commit_name(step), step.call()),
+            At::TellsSuccess => Some(DutyName::Success),
+            At::TellsFail => Some(DutyName::Fail),
+            At::AbortsCommit => Some(DutyName::Abort),
+            At::Runs | At::Fails(_) | At::Ends(_) | At::Stops => None,
         }
     }
 }

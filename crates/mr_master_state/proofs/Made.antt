@@ -71,16 +71,17 @@ sound-still m ls ws bs (change.Launches i a y l) u x = record {
 }
 sound-still m ls ws bs _ u x = tt
 
--- what is planned stays so, and then there is room for it
+-- what is planned stays so
+pub planned-still : (old new : Master) (step : Step) (r : Prepared) → Unchanged old new → PlansFor old step r → PlansFor new step r
+planned-still old new step r u x = record {
+  sound = subst (λ (m : Master). IsSound m r.change) (sym u.is) (sound-still old new.launches new.writing new.bars r.change (subst (λ (m : Master). Unchanged old m) u.is u) x.sound);
+  sent = λ w s k. x.sent w s (keeps-back old new w s u k);
+  seen = λ w s k. x.seen w s (keeps-back old new w s u k);
+}
+
+-- and where there is room for it, it is ready
 pub now-ready : (old new : Master) (step : Step) (r : Prepared) → Unchanged old new → HasRoom new r.change → PlansFor old step r → IsReadyFor new step r
-now-ready old new step r u room x = (
-  record {
-    sound = subst (λ (m : Master). IsSound m r.change) (sym u.is) (sound-still old new.launches new.writing new.bars r.change (subst (λ (m : Master). Unchanged old m) u.is u) x.sound);
-    sent = λ w s k. x.sent w s (keeps-back old new w s u k);
-    seen = λ w s k. x.seen w s (keeps-back old new w s u k);
-  },
-  room,
-)
+now-ready old new step r u room x = (planned-still old new step r u x, room)
 
 -- ---- which past the machine stands for then
 

@@ -1,6 +1,6 @@
 //! A machine that stands for what another one stands for.
 ghost use Rattle.std.specs.Prelude.{◌≡◌, IfOk};
-ghost use Rattle.mr_master_state.specs.State.{Moves};
+ghost use Rattle.mr_master_state.specs.State.{Unchanged};
 ghost use Rattle.mr_master_tables.specs.Launches.{SameLaunches};
 ghost use Rattle.mr_master_tables.specs.Records.{SameRecords};
 
@@ -33,7 +33,7 @@ struct Noted {
 impl Machine {
     /// A machine that keeps what this one keeps. Spare room is not copied.
     pub fn copy(&self) -> Result<Machine, AllocError>
-        ensures { IfOk result (λ machine. Moves self.now (λ w s. s) machine) }
+        ensures { IfOk result (Unchanged self.now) }
     {
         let running = self.copy_running()?;
         let noted = self.copy_noted()?;

@@ -10,7 +10,7 @@
 //!
 //! # What is proved
 //!
-//! - A new machine stands for the empty past (`Machine::new`). `copy` gives a machine that keeps all that this one keeps.
+//! - A new machine stands for the empty past (`Machine::new`). `copy` gives a machine that keeps all that this one keeps, spare room aside.
 //! - `keeps_same` is true exactly where two machines hold the same (`SameMachines`), `is_same` where they do for one
 //!   setting. Neither compares spare room, or in which order the nodes were heard of.
 //! - What is asked of a machine is what is read off all that it may stand for. Of attempts: `known`, `launched_in`,

@@ -14,10 +14,10 @@ use Rattle.mr_names_tree.specs.Content.{Content}
 use Rattle.mr_names_tree.specs.Walk.{found_of, walk}
 use Rattle.mr_names_tree.proofs.ContentLaws.{same, same_path, same_itself}
 
-numbers_decide : (a b : ℕ) → Decides (nat_eq a b) (a ≡ b)
+pub numbers_decide : (a b : ℕ) → Decides (nat_eq a b) (a ≡ b)
 numbers_decide = search (rules)
 
-bytes_decide : (a b : List ℕ) → Decides (pointwise nat_eq a b) (a ≡ b)
+pub bytes_decide : (a b : List ℕ) → Decides (pointwise nat_eq a b) (a ≡ b)
 bytes_decide a b = slice_eq-Decides numbers_decide a b _ refl
 
 -- `==` of two nodes holds exactly where they are equal

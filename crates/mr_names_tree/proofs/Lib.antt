@@ -9,5 +9,6 @@ pub mod LastNames
 pub mod ListingLaws
 pub mod Making
 pub mod NodeLines
+pub mod Same_places
 pub mod Visiting
 pub mod Walks

@@ -29,6 +29,7 @@
 mod links;
 mod node;
 mod place;
+mod same;
 mod tree;
 mod walk;
 

@@ -18,6 +18,7 @@ use crate::links::{
 };
 use crate::node::{Entries, Node};
 use crate::place::{Ahead, Place};
+use crate::same::is_same_graph;
 use crate::walk::{Found, Walk};
 use mr_ids::Bytes;
 use mr_paths::{Name, Path};
@@ -194,15 +195,25 @@ impl Tree {
     }
 
     /// Whether both hold the same: the same paths, and at each the same directory or file. It takes memory for a walk
-    /// through one, where both have as many entries.
+    /// through one, where both have as many entries and were not made by the same calls.
     pub fn is_same(&self, alloc: Global, other: &Tree) -> Result<bool, AllocError>
         ensures { IfOk result (λ same. IsTrue same ↔ (self.now ≡ other.now)) }
     {
         if self.len() != other.len() {
             return Ok(false);
         }
+        if self.is_made_alike(other) {
+            return Ok(true);
+        }
         let found = self.walk(alloc)?;
         Ok(self.are_alike(other, found.as_slice()))
+    }
+
+    // Whether both keep the same nodes under the same keys.
+    fn is_made_alike(&self, other: &Tree) -> bool
+        ensures { IsTrue result → self.now ≡ other.now }
+    {
+        self.root == other.root && is_same_graph(&self.nodes, &other.nodes)
     }
 
     // Whether both hold the same at each path that was found.

@@ -10,6 +10,9 @@ use std::marker::Model;
 /// Most packets of a bag (own profile).
 pub const MAX_PACKETS: usize = 1_000_000;
 
+// A copy has room for so many packets more: most bags that are copied go on.
+const MORE: usize = 8;
+
 /// All packets that were ever sent, in the order of their sending. It only grows.
 ///
 /// Contracts see the list, and beside it a number, `spare`: how many packets can be pushed for sure without taking memory. No clause that
@@ -97,13 +100,12 @@ impl Bag {
         self.packets.len()
     }
 
-    /// A bag of its own with the same packets. Spare room is not copied. Its only fault is an allocation failure.
+    /// A bag of its own with the same packets, and some spare room. Its only fault is an allocation failure.
     pub fn copy(&self) -> Result<Bag, AllocError>
         ensures { IfOk result (λ bag. bag.packets ≡ self.now.packets) }
     {
-        Ok(Bag {
-            packets: self.packets.clone()?,
-        })
+        let packets = copy_packets(*self.packets.allocator(), &self.packets)?;
+        Ok(Bag { packets })
     }
 
     /// All packets, in the order of their sending.
@@ -132,4 +134,15 @@ fn behind(packets: &[Envelope], place: usize) -> &[Envelope]
     } else {
         &packets[packets.len()..]
     }
+}
+
+// Equal packets, with spare room.
+fn copy_packets(alloc: Global, packets: &[Envelope]) -> Result<Vec<Envelope>, AllocError>
+    ensures { IfOk result (λ copies. copies.items ≡ packets.now) }
+{
+    let mut copies = Vec::with_capacity(alloc, packets.len().saturating_add(MORE))?;
+    for packet in packets {
+        copies.push(packet.copy()?)?;
+    }
+    Ok(copies)
 }

@@ -4,7 +4,7 @@ ghost use Rattle.std.specs.Prelude.{◌≡◌, IfOk};
 ghost use Rattle.mr_ids.specs.Text.{numeral, task_text, attempt_text};
 ghost use Rattle.mr_paths.specs.Layout.{temporary_name, marker_name, temporary, job_attempt, task_attempt, committed, marker, part, staging, is_hidden};
 
-use crate::name::Name;
+use crate::name::{INLINE_LEN, Name};
 use crate::path::Path;
 use mr_ids::{AppAttempt, AttemptId, TaskId};
 use std::alloc::{AllocError, Global};
@@ -113,7 +113,7 @@ fn marker_name(alloc: Global) -> Result<Name, AllocError>
 fn generation_name(alloc: Global, k: AppAttempt) -> Result<Name, AllocError>
     ensures { IfOk result (λ name. name ≡ numeral 1 k) }
 {
-    let mut text = Vec::new(alloc);
+    let mut text = Vec::with_capacity(alloc, INLINE_LEN)?;
     k.write(&mut text)?;
     Ok(Name::from_bytes(text))
 }
@@ -121,7 +121,7 @@ fn generation_name(alloc: Global, k: AppAttempt) -> Result<Name, AllocError>
 fn task_name(alloc: Global, task: TaskId) -> Result<Name, AllocError>
     ensures { IfOk result (λ name. name ≡ task_text task) }
 {
-    let mut text = Vec::new(alloc);
+    let mut text = Vec::with_capacity(alloc, INLINE_LEN)?;
     task.write(&mut text)?;
     Ok(Name::from_bytes(text))
 }
@@ -129,7 +129,7 @@ fn task_name(alloc: Global, task: TaskId) -> Result<Name, AllocError>
 fn attempt_name(alloc: Global, attempt: AttemptId) -> Result<Name, AllocError>
     ensures { IfOk result (λ name. name ≡ attempt_text attempt) }
 {
-    let mut text = Vec::new(alloc);
+    let mut text = Vec::with_capacity(alloc, INLINE_LEN)?;
     attempt.write(&mut text)?;
     Ok(Name::from_bytes(text))
 }

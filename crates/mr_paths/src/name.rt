@@ -9,14 +9,18 @@ ghost use Rattle.mr_paths.specs.Path.{IsName};
 ghost use Rattle.mr_paths.specs.Text.{ReadsName};
 
 use crate::fault::PathFault;
+use smallvec::SmallVec;
 use std::alloc::{AllocError, Global};
 use std::cmp::Ordering;
 use std::marker::Model;
 
+// Names up to this length take no allocation: those of an attempt below the tenth, and shorter ones.
+pub(crate) const INLINE_LEN: usize = 36;
+
 /// One name of a path: 1 to 255 bytes with no `/`.
 #[derive(Debug, Drop)]
 pub struct Name {
-    bytes: Vec<u8>,
+    bytes: SmallVec<u8, INLINE_LEN>,
 }
 
 impl Model for Name {
@@ -44,7 +48,7 @@ impl Name {
         ensures { IfOk result (λ name. name ≡ bytes.now) }
     {
         Ok(Name {
-            bytes: Vec::from_slice(alloc, bytes)?,
+            bytes: SmallVec::from_slice(alloc, bytes)?,
         })
     }
 
@@ -53,7 +57,9 @@ impl Name {
         requires { IsName bytes.items }
         ensures { result ≡ bytes.items }
     {
-        Name { bytes }
+        Name {
+            bytes: SmallVec::from_vec(bytes),
+        }
     }
 
     /// Reads bytes as a name: `BadName` where they are none.
@@ -71,7 +77,7 @@ impl Name {
         ensures value { result.now ≡ self.now }
         ensures name { IsName self.now }
     {
-        &self.bytes
+        self.bytes.as_slice()
     }
 
     // The allocator that holds the bytes.
@@ -84,7 +90,7 @@ impl Name {
         ensures { IfOk result (λ name. name ≡ self.now) }
     {
         Ok(Name {
-            bytes: Vec::from_slice(self.allocator(), &self.bytes)?,
+            bytes: SmallVec::from_slice(self.allocator(), self.as_bytes())?,
         })
     }
 }

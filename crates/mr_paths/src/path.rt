@@ -17,6 +17,9 @@ use std::alloc::{AllocError, Global};
 use std::cmp::Ordering;
 use std::marker::Model;
 
+// A place beneath another one is made with room for so many names more: those of an attempt's directory.
+const MORE: usize = 4;
+
 /// A place in the namespace: the names on the way from the root, which is the empty list.
 #[derive(Debug, Drop)]
 pub struct Path {
@@ -99,9 +102,9 @@ impl Path {
     pub fn child(&self, name: Name) -> Result<Path, AllocError>
         ensures { IfOk result (λ path. path ≡ self.now ++ name ∷ []) }
     {
-        let mut path = self.copy()?;
-        path.push(name)?;
-        Ok(path)
+        let mut names = copy_names(self.allocator(), &self.names, MORE)?;
+        names.push(name)?;
+        Ok(Path { names })
     }
 
     /// The first `n` names.
@@ -109,7 +112,7 @@ impl Path {
         requires { n ≤ length self.now }
         ensures { IfOk result (λ path. path ≡ take n self.now) }
     {
-        let names = copy_names(self.allocator(), &self.names[..n])?;
+        let names = copy_names(self.allocator(), &self.names[..n], 0)?;
         Ok(Path { names })
     }
 
@@ -117,7 +120,7 @@ impl Path {
     pub fn copy(&self) -> Result<Path, AllocError>
         ensures { IfOk result (λ path. path ≡ self.now) }
     {
-        let names = copy_names(self.allocator(), &self.names)?;
+        let names = copy_names(self.allocator(), &self.names, 0)?;
         Ok(Path { names })
     }
 }
@@ -168,11 +171,11 @@ fn beneath<'a>(names: &'a [Name], top: &[Name]) -> Option<&'a [Name]>
     }
 }
 
-// Equal names, in the same order.
-fn copy_names(alloc: Global, names: &[Name]) -> Result<Vec<Name>, AllocError>
+// Equal names, in the same order, with room for some more.
+fn copy_names(alloc: Global, names: &[Name], more: usize) -> Result<Vec<Name>, AllocError>
     ensures { IfOk result (λ copies. copies.items ≡ names.now) }
 {
-    let mut copies = Vec::with_capacity(alloc, names.len())?;
+    let mut copies = Vec::with_capacity(alloc, names.len().saturating_add(more))?;
     for name in names {
         copies.push(name.copy()?)?;
     }

@@ -1,5 +1,5 @@
 -- What is read of masters, of their history and of the bag is what the definitions say.
-use Rattle.std.proofs.Common.{◌≡◌, ℕ, sym, ◌∙◌, ap, Bool, true, List, Option, Some, None, if◌then◌else◌, is_some, length, arith}
+use Rattle.std.proofs.Common.{◌≡◌, ℕ, refl, sym, ◌∙◌, ap, Bool, true, List, Option, Some, None, if◌then◌else◌, is_some, length, arith}
 use Rattle.std.specs.Option.{option_map}
 use Rattle.mr_ids.specs.declared.id.TaskId.{TaskId}
 use Rattle.mr_history.specs.Calls.{segment}
@@ -7,7 +7,9 @@ use Rattle.mr_history.specs.Recorded.{tail_width}
 use Rattle.mr_history.proofs.Segments.{tail_len}
 use Rattle.mr_world_state.specs.mr_master.specs.State as master
 use Rattle.mr_master_model.specs.declared.phase.Phase.{Phase}
+use Rattle.mr_master_model.specs.declared.phase.DutyName.{DutyName}
 use Rattle.mr_master_model.specs.declared.setting.Setting.{Setting}
+use Rattle.mr_master_model.specs.Answered.{name_of}
 use Rattle.mr_master_model.specs.Duty as machine
 use Rattle.mr_master_model.specs.Next.{seen}
 use Rattle.mr_master_model.specs.Past as past
@@ -45,9 +47,13 @@ phase-is p w k m r s at a = ap Some (there p w k m _ r s at a ∙ (agrees k s.re
 pub wanted-is : (p : Parts) (w : World) (k : ℕ) (m : master.Master) (r : Option TaskId) → Standing p w → master_of p.masters k ≡ Some m → master.Answers m (λ w h. read.wanted w (seen w h)) r → r ≡ wanted_in p.config w k
 wanted-is p w k m r s at a = there p w k m _ r s at a ∙ ((agrees k s.reached).wanted ∙ is-read p w k m (wanted p.config (seen_by p.config w k)) s at)
 
-pub due-is : (p : Parts) (w : World) (k : ℕ) (m : master.Master) (r : Option machine.Duty) → Standing p w → master_of p.masters k ≡ Some m → master.Answers m (λ w h. machine.duty w (seen w h)) r → option_map (λ (d : machine.Duty). d.name) r ≡ due_in p.config w k
-due-is p w k m r s at a = ap (option_map (λ (d : machine.Duty). d.name)) (there p w k m _ r s at a ∙ (agrees k s.reached).point.duty)
-    ∙ is-read p w k m (option_map (λ (d : machine.Duty). d.name) (named (seen_by p.config w k).phase (duty p.config w k))) s at
+named-so : (d : Option machine.Duty) → name_of d ≡ option_map (λ (e : machine.Duty). e.name) d
+named-so None = refl
+named-so (Some d) = refl
+
+pub due-is : (p : Parts) (w : World) (k : ℕ) (m : master.Master) (r : Option DutyName) → Standing p w → master_of p.masters k ≡ Some m → master.Answers m (λ w h. name_of (machine.duty w (seen w h))) r → r ≡ due_in p.config w k
+due-is p w k m r s at a = there p w k m _ r s at a ∙ (named-so _ ∙ (ap (option_map (λ (d : machine.Duty). d.name)) (agrees k s.reached).point.duty
+    ∙ is-read p w k m (option_map (λ (d : machine.Duty). d.name) (named (seen_by p.config w k).phase (duty p.config w k))) s at))
 
 pub unflushed-is : (p : Parts) (w : World) (k n : ℕ) → Standing p w → is_some (master_of p.masters k) ≡ true → n ≡ length (segment p.history k).tail → Some n ≡ unflushed_in w k
 unflushed-is p w k n s alive is =

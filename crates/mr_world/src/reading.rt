@@ -1,7 +1,6 @@
 //! What is read of masters, of their history and of the bag.
 //! For programs that run or show a world.
 ghost use Rattle.std.specs.Prelude.{◌≡◌, ◌≤◌, ◌<◌, IfOk, IfErr, []};
-ghost use Rattle.std.specs.Option.{option_map};
 ghost use Rattle.mr_history.specs.Reading.{records_of};
 ghost use Rattle.mr_world_state.specs.declared.fault.WorldFault.TheVariants.{NoMemory};
 ghost use Rattle.mr_world_model.specs.World.{World};
@@ -14,7 +13,6 @@ use mr_ids::{AppAttempt, TaskId};
 use mr_master_model::{DutyName, Phase};
 use mr_names::Namespace;
 use mr_packet::Envelope;
-use mr_world_state::mr_master::Duty;
 use mr_world_state::{Parts, WorldFault};
 
 /// All packets that were ever sent, in the order of their sending.
@@ -71,7 +69,7 @@ pub fn due(parts: &Parts, k: u32) -> Result<Option<DutyName>, WorldFault>
     ensures memory { IfErr result (λ fault. fault ≡ WorldFault.NoMemory) }
 {
     match parts.masters.get(k) {
-        Some(machine) => Ok(name_of(machine.duty()?)),
+        Some(machine) => Ok(machine.duty_name()?),
         None => Ok(None),
     }
 }
@@ -88,15 +86,5 @@ pub fn stable(parts: &Parts, k: u32) -> &[u8]
     match AppAttempt::new(k) {
         Some(app) if history.is_raised(app) => history.stable(app),
         _ => &[],
-    }
-}
-
-// What a duty is for.
-fn name_of(due: Option<Duty>) -> Option<DutyName>
-    ensures { result ≡ option_map (λ d. d.name) due }
-{
-    match due {
-        Some(duty) => Some(duty.name()),
-        None => None,
     }
 }

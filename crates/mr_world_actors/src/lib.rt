@@ -14,9 +14,9 @@
 //!   and of no other.
 //! - `Shared` holds a value that several worlds have, until one of them changes it. Contracts see the value alone.
 //!   `Shared::share` gives the same value to one world more, and copies nothing. `Shared::own` lends the value to be
-//!   changed: who else has it keeps what was.
+//!   changed: who else has it keeps what was. So does `Shared::own_clone`, of a value whose clone may differ from it.
 //! - Memory may be taken by `Living::insert`, `Living::hear`, `Living::all`, `Nodes::new`, `Nodes::put`, `Nodes::hear`,
-//!   `Nodes::restart`, `Shared::new`, `Shared::own` and the copies. No other call takes any.
+//!   `Nodes::restart`, `Shared::new`, `Shared::own`, `Shared::own_clone` and the copies. No other call takes any.
 //! - `Living::all` lists who lives, by generation, then number; `Living::next` is the next one after another, in cyclic order.
 //! - `Living::letters` tells the packet of a container's step, and whether it is its last. `Living::would_end` and
 //!   `Nodes::would_answer` tell beforehand what a packet would lead to, and change nothing.

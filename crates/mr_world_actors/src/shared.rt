@@ -1,8 +1,8 @@
 //! Values that the parts of several worlds have in common, until one world changes them.
 //! So a copy of the parts copies none of them.
-ghost use Rattle.std.specs.Prelude.{◌≡◌, IfOk};
+ghost use Rattle.std.specs.Prelude.{◌≡◌, ◌⊎◌, IfOk};
 ghost use Rattle.std.specs.Borrow.{sem};
-ghost use Rattle.mr_world_actors.specs.Sharing.{LendsShared};
+ghost use Rattle.mr_world_actors.specs.Sharing.{LendsClone, LendsShared};
 
 use mr_history::History;
 use mr_names::Namespace;
@@ -98,6 +98,17 @@ impl<T: Duplicate> Shared<T> {
         let value = self.value.duplicate()?;
         self.value = Arc::new(self.alloc, value)?;
         Ok(())
+    }
+}
+
+impl<T: Clone> Shared<T> {
+    /// As `own`, of a value whose clone may differ from it: where others have the value too, a clone takes its place
+    /// first. It may have taken it where memory is refused.
+    pub fn own_clone(&mut self) -> Result<&mut T, AllocError>
+        ensures* writes_back { sem 𝓛 (LendsClone T.row T.is_clone self.entry result) }
+        ensures value { IfOk result (λ value. (value.now ≡ self.old) ⊎ T.is_clone self.old value.now) }
+    {
+        Arc::make_mut(&mut self.value)
     }
 }
 

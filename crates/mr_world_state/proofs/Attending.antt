@@ -1,5 +1,5 @@
 -- A master takes a step: what is planned before, and what the parts stand for then; and the same of the answer of its store call.
-use Rattle.std.proofs.Common.{◌≡◌, ◌≤◌, ◌<◌, ℕ, ◌+◌, refl, sym, ◌∙◌, ap, subst, Bool, true, false, ◌&&◌, List, ◌++◌, Some, None, if◌then◌else◌, is_some, nat_eq, nat_le, length, arith, Result, Ok, Err, IfOk, OnOk, IsErrAnd, Option}
+use Rattle.std.proofs.Common.{◌≡◌, ◌≤◌, ◌<◌, ℕ, ◌+◌, refl, sym, ◌∙◌, ap, subst, Bool, true, false, ◌&&◌, List, ◌++◌, Some, None, if◌then◌else◌, is_some, nat_eq, nat_le, length, arith, Result, Ok, Err, IsOk, IfOk, OnOk, OnErr, IsErrAnd, Option}
 use Rattle.std.proofs.lemmas.Bool.{le-leb, lt-leb}
 use Rattle.std.proofs.lemmas.Bool.Decides.{nat_tests}
 use Rattle.std.proofs.lemmas.Result.{err_from_is_err_and}
@@ -56,6 +56,14 @@ same-stands m w past at = at
 -- what its borrower leaves stands at its place
 pub lent : {A : Type 0} {P : Type 0} (o : Option A) (x : A) → o ≡ Some x → OnSome o P → P
 lent {A} {P} o x e p = subst (λ (z : Option A). OnSome z P) e p
+
+-- it is the machine that this world has alone
+pub own-is : {A E P : Type 0} (r : Result A E) (x : A) → r ≡ Ok x → (IsOk r → P) → P
+own-is r x e p = p (subst IsOk (sym e) refl)
+
+-- where it is refused
+pub own-refused : {A E P : Type 0} (r : Result A E) (f : E) → r ≡ Err f → OnErr r P → P
+own-refused {A} {E} {P} r f e p = subst (λ (x : Result A E). OnErr x P) e p
 
 -- ---- parts in which the machine stands for what it stood for
 

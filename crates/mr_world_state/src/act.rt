@@ -5,7 +5,10 @@ ghost use Rattle.std.specs.Prelude.{◌≡◌, ◌≤◌, ◌+◌, ◌++◌, len
 ghost use Rattle.mr_master_model.specs.Past.{Step, Answered};
 ghost use Rattle.mr_master.specs.State.{StandsStill, Stands};
 ghost use Rattle.mr_master.specs.Prepared.{PlansFor, IsReadyFor, IsReadyForStep};
+ghost use Rattle.std.specs.Borrow.{sem};
+ghost use Rattle.mr_master.specs.Prepared.{Prepared};
 ghost use Rattle.mr_world_state.specs.inner.Attending.{PlansAnswerOf};
+ghost use Rattle.mr_world_state.specs.inner.Lending.{LendsOwn};
 
 use crate::fault::WorldFault;
 use crate::push::push_all;
@@ -13,6 +16,7 @@ use crate::room::{check_room, reserve};
 use mr_master::{MasterMachine, Prepared};
 use mr_master_model::StoreAnswer;
 use mr_packet::{Bag, MAX_PACKETS};
+use mr_world_actors::Shared;
 use std::alloc::AllocError;
 
 /// What a master would send and change once it hears this answer, where its packets find room in the bag.
@@ -28,6 +32,16 @@ pub fn plan_answer(
     let prepared = machine.prepare_answer(answer)?;
     check_room(bag, prepared.packets().len())?;
     Ok(prepared)
+}
+
+/// The master's machine, to be changed by this world alone: where others have it too, a copy takes its place first. It
+/// stands for what it stood for, also where memory is refused.
+pub fn own(machine: &mut Shared<MasterMachine>) -> Result<&mut MasterMachine, AllocError>
+    ensures* writes_back { sem 𝓛 (LendsOwn machine.entry result) }
+    ensures still { IfOk result (λ own. StandsStill machine.old own.now) }
+    ensures plans { IfOk result (λ own. (step : Step) (prepared : Prepared) → PlansFor machine.old step prepared → PlansFor own.now step prepared) }
+{
+    machine.own_clone()
 }
 
 /// Room is made for what is prepared: in the bag for its packets, and in the master. Nothing changes but spare room.
@@ -58,9 +72,9 @@ pub fn act(machine: &mut MasterMachine, bag: &mut Bag, prepared: Prepared)
     push_all(bag, packets);
 }
 
-/// The same two in one call. Where memory is refused nothing changes but spare room.
+/// The same three in one call. Where memory is refused nothing changes but spare room.
 pub fn take_step(
-    machine: &mut MasterMachine,
+    machine: &mut Shared<MasterMachine>,
     bag: &mut Bag,
     prepared: Prepared,
 ) -> Result<(), AllocError>
@@ -71,6 +85,7 @@ pub fn take_step(
     ensures still { OnErr result (StandsStill machine.old machine.new) }
     ensures unsent { OnErr result (bag.new.packets ≡ bag.old.packets) }
 {
+    let machine = own(machine)?;
     make_room(machine, bag, &prepared)?;
     act(machine, bag, prepared);
     Ok(())

@@ -9,7 +9,7 @@ use mr_master_model::StoreCall;
 use mr_names::Namespace;
 use mr_world_actors::Shared;
 use mr_world_events::Weather;
-use mr_world_stores::{append_record, change_names, is_made};
+use mr_world_stores::{append_record, change_names, is_made, only_looks};
 use std::alloc::AllocError;
 
 /// A master's store call is made, if it is in this weather: the stores are left as it leaves them, refused or not.
@@ -31,6 +31,7 @@ pub fn ask(
         return Ok(());
     }
     match call {
+        StoreCall::Names(op) if only_looks(app, op) => Ok(()),
         StoreCall::Names(op) => change_names(names.own()?, app, op),
         StoreCall::Append(line) => append_record(history.own()?, app, line),
         StoreCall::Flush => {

@@ -4,7 +4,7 @@ ghost use Rattle.mr_world_actors.specs.Living.{Same};
 ghost use Rattle.mr_world_actors.specs.Nodes.{SameNodes};
 ghost use Rattle.mr_world_model.specs.World.{World};
 ghost use Rattle.mr_world_state.specs.Standing.{Standing};
-ghost use Rattle.mr_world_state.specs.inner.Masters.{AreCopied};
+ghost use Rattle.mr_world_state.specs.inner.Masters.{SameMasters};
 
 use crate::masters::Masters;
 use crate::parts::Parts;
@@ -67,7 +67,7 @@ impl Parts {
     }
 
     fn copy_machines(&self) -> Result<Machines, AllocError>
-        ensures masters { IfOk result (λ machines. AreCopied self.now.masters machines.masters) }
+        ensures masters { IfOk result (λ machines. SameMasters self.now.masters machines.masters) }
         ensures living { IfOk result (λ machines. Same self.now.living machines.living) }
         ensures nodes { IfOk result (λ machines. SameNodes self.now.nodes machines.nodes) }
     {

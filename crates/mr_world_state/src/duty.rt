@@ -5,7 +5,7 @@ ghost use Rattle.mr_world_state.specs.Histories.{change_of, changed};
 ghost use Rattle.mr_world_state.specs.inner.Asking.{ForeseesDuty, ForeseesDutyOf};
 ghost use Rattle.mr_world_state.specs.Standing.{Foresees, Standing, Tries};
 
-use crate::act::{act, make_room, plan_answer};
+use crate::act::{act, make_room, own, plan_answer};
 use crate::alive::raised;
 use crate::ask::ask;
 use crate::fault::WorldFault;
@@ -72,6 +72,7 @@ impl Parts {
             answer,
         } = find_duty(&self.names, &self.history, machine, app, weather)?;
         let prepared = plan_answer(&self.bag, machine, answer)?;
+        let machine = own(machine)?;
         make_room(machine, &mut self.bag, &prepared)?;
         ask(
             &mut self.names,

@@ -12,7 +12,7 @@ use mr_master_model::{StoreAnswer, StoreCall};
 use mr_names::Namespace;
 use mr_world_actors::Shared;
 use mr_world_events::Weather;
-use mr_world_stores::{finds_full, is_made, master_answer, tell_ranges};
+use mr_world_stores::{answer_where_room, finds_full, tell_ranges};
 
 /// What a master will be told of its store call in this weather. Refused `Full` where the call is made and finds a store
 /// full.
@@ -31,11 +31,17 @@ pub fn foretell(
 {
     // For the prover: the numbers of a record are in the ranges of their types.
     tell_ranges(call);
-    if is_made(weather) && finds_full(names, history, app, call) {
-        return Err(WorldFault::Full);
-    }
     match weather {
-        Weather::Calm => Ok(master_answer(names, history, app, call)?),
-        Weather::Unavailable | Weather::Unanswered => Ok(StoreAnswer::Fault),
+        Weather::Calm => match answer_where_room(names, history, app, call)? {
+            Some(answer) => Ok(answer),
+            None => Err(WorldFault::Full),
+        },
+        Weather::Unavailable => Ok(StoreAnswer::Fault),
+        Weather::Unanswered => {
+            if finds_full(names, history, app, call) {
+                return Err(WorldFault::Full);
+            }
+            Ok(StoreAnswer::Fault)
+        }
     }
 }

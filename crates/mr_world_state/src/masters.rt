@@ -4,16 +4,17 @@ ghost use Rattle.std.specs.Option.{option_copied, option_copied_mut};
 ghost use Rattle.std.specs.Borrow.{sem};
 ghost use Rattle.mr_world_state.specs.Machines.{master_of, master_count, SameMaster};
 ghost use Rattle.mr_world_state.specs.inner.Lending.{LendsMaster};
-ghost use Rattle.mr_world_state.specs.inner.Masters.{SameMasters, Begins, Ceases, AreCopied, IsCopied};
+ghost use Rattle.mr_world_state.specs.inner.Masters.{SameMasters, Begins, Ceases};
 
 use mr_master::MasterMachine;
+use mr_world_actors::Shared;
 use std::alloc::{AllocError, Global};
 
 /// The machines of the masters that are alive, by generation, from 1. For each other one that was started an empty
-/// place is kept.
+/// place is kept. Several worlds may have a machine, until one of them changes it.
 #[derive(Drop)]
 pub struct Masters {
-    machines: Vec<Option<MasterMachine>>,
+    machines: Vec<Option<Shared<MasterMachine>>>,
 }
 
 impl Masters {
@@ -28,15 +29,14 @@ impl Masters {
         }
     }
 
-    /// Masters of the same generations, each of which stands for what it stood for. Its only fault is an allocation
-    /// failure.
-    #[tactic(auto, using(crate::proofs::Copying::masters_copied))]
+    /// The same machines of the same generations. None is copied. Its only fault is an allocation failure.
+    #[tactic(auto, unfolding(crate::specs::Machines::master_of, crate::specs::Machines::master_count))]
     pub(crate) fn copy(&self) -> Result<Masters, AllocError>
-        ensures { IfOk result (AreCopied self.now) }
+        ensures { IfOk result (SameMasters self.now) }
     {
         let mut machines = Vec::with_capacity(*self.machines.allocator(), self.machines.len())?;
         for machine in &self.machines {
-            machines.push(copied(machine)?)?;
+            machines.push(shared(machine)?)?;
         }
         Ok(Masters { machines })
     }
@@ -67,7 +67,7 @@ impl Masters {
     fn at(&self, place: usize) -> Option<&MasterMachine>
         ensures { option_copied result ≡ master_of self.now (suc place) }
     {
-        self.machines.get(place)?.as_ref()
+        machine_at(self.machines.get(place)?)
     }
 
     /// The machine of the master of this generation, if it is alive.
@@ -76,11 +76,11 @@ impl Masters {
         ensures { option_copied result ≡ master_of self.now k }
     {
         let place = k.checked_sub(1)?;
-        self.machines.get(place as usize)?.as_ref()
+        machine_at(self.machines.get(place as usize)?)
     }
 
-    /// The same, to be changed.
-    pub(crate) fn get_mut(&mut self, k: u32) -> Option<&mut MasterMachine>
+    /// The same, to be changed. Other worlds may have it too.
+    pub(crate) fn get_mut(&mut self, k: u32) -> Option<&mut Shared<MasterMachine>>
         ensures* writes_back { sem 𝓛 (LendsMaster self.entry k result) }
         ensures value { option_copied_mut result ≡ master_of self.old k }
     {
@@ -102,10 +102,11 @@ impl Masters {
 
     /// A master of the next generation begins, with this machine. Where memory is refused nothing changes.
     #[tactic(auto, unfolding(crate::specs::Machines::master_of, crate::specs::Machines::master_count))]
-    pub(crate) fn begin(&mut self, machine: MasterMachine) -> Result<(), AllocError>
+    pub(crate) fn begin(&mut self, alloc: Global, machine: MasterMachine) -> Result<(), AllocError>
         ensures ok { OnOk result (Begins self.old machine self.new) }
         ensures err { OnErr result (SameMasters self.old self.new) }
     {
+        let machine = Shared::new(alloc, machine)?;
         self.machines.push(Some(machine))?;
         Ok(())
     }
@@ -124,13 +125,25 @@ impl Masters {
     }
 }
 
-// A machine for another place, if there is one at this.
-fn copied(place: &Option<MasterMachine>) -> Result<Option<MasterMachine>, AllocError>
-    ensures { IfOk result (IsCopied place.now) }
+// The machine at a place, for a place of another world, if there is one.
+fn shared(
+    place: &Option<Shared<MasterMachine>>,
+) -> Result<Option<Shared<MasterMachine>>, AllocError>
+    ensures { IfOk result (λ other. other ≡ place.now) }
 {
     match place {
-        Some(machine) => Ok(Some(machine.copy()?)),
+        Some(machine) => Ok(Some(machine.share()?)),
         None => Ok(None),
+    }
+}
+
+// The machine at a place, if there is one.
+fn machine_at(place: &Option<Shared<MasterMachine>>) -> Option<&MasterMachine>
+    ensures { option_copied result ≡ place.now }
+{
+    match place {
+        Some(machine) => Some(&**machine),
+        None => None,
     }
 }
 

@@ -41,10 +41,11 @@ impl Parts {
     {
         let app = self.check_start(k, kept)?;
         let setting = setting(&self.config, &self.layout, app)?;
-        let machine = MasterMachine::new(self.allocator(), setting)?;
+        let alloc = self.allocator();
+        let machine = MasterMachine::new(alloc, setting)?;
         let names = self.names.own()?;
         let history = self.history.own()?;
-        self.masters.begin(machine)?;
+        self.masters.begin(alloc, machine)?;
         names.raise(app);
         history.raise(app, kept as usize, version(&self.config, app));
         Ok(())

@@ -2,6 +2,7 @@
 use Rattle.std.specs.Prelude.{◌≡◌, ℕ, Bool, true, false, Option, Some, None, Ok, Err}
 use Rattle.mr_names.specs.declared.op.Op.{Op}
 use Rattle.mr_names.specs.declared.op.Op.TheVariants as op
+use Rattle.mr_names.specs.declared.fault.NameFault.TheVariants as name_fault
 use Rattle.mr_names.specs.Calls as names
 use Rattle.mr_history.specs.declared.fault.HistoryFault.{HistoryFault}
 use Rattle.mr_history.specs.declared.fault.HistoryFault.TheVariants as history_fault
@@ -57,6 +58,12 @@ abbrev pub finds_full : names.State → history.State → ℕ → StoreCall → 
 finds_full s h k (call.Names o) = is_full (names.refused s (master k) o)
 finds_full s h k (call.Append r) = is_segment_full (segments.refused h k (segments.Append r))
 finds_full s h k _ = false
+
+-- the answer tells so
+abbrev pub tells_full : StoreAnswer → Bool
+tells_full (answer.Names (Err name_fault.Full)) = true
+tells_full (answer.Wrote (Err history_fault.Full)) = true
+tells_full _ = false
 
 -- the numbers of a record that is appended are in their ranges
 abbrev pub IsRanged : StoreCall → Type 0

@@ -1,6 +1,6 @@
 //! A master's store call is made: what it leaves of the namespace, or of the job history.
-ghost use Rattle.std.specs.Prelude.{◌≡◌, ◌≤◌, OnOk, OnErr};
-ghost use Rattle.mr_names.specs.Calls.{call_of};
+ghost use Rattle.std.specs.Prelude.{◌≡◌, ◌≤◌, IsTrue, OnOk, OnErr};
+ghost use Rattle.mr_names.specs.Calls.{State, call_of};
 ghost use Rattle.mr_history.specs.Calls as segments;
 ghost use Rattle.mr_world_model.specs.Stored.{master};
 ghost use Rattle.mr_world_stores.specs.Masters.{IsSuited, is_look};
@@ -9,20 +9,18 @@ use crate::foretelling::master_caller;
 use mr_history::{History, Record};
 use mr_ids::AppAttempt;
 use mr_master_model::StoreCall;
-use mr_names::{Namespace, Op};
+use mr_names::{NameFault, Namespace, Op};
 use std::alloc::AllocError;
 
-/// The namespace is left as the call leaves it. A look is not made again: it changes nothing.
+/// The namespace is left as the call leaves it.
 pub fn change_names(names: &mut Namespace, app: AppAttempt, op: &Op) -> Result<(), AllocError>
     ensures ok { OnOk result (names.new ≡ (call_of names.old (master app) op.now).1) }
     ensures err { OnErr result (names.new ≡ names.old) }
 {
-    if is_look(op) || names.foresee(master_caller(app), op).is_some() {
-        return Ok(());
-    }
     match names.perform(master_caller(app), op) {
         Ok(_) => Ok(()),
-        Err(fault) => Err(fault.wants_memory()),
+        Err(NameFault::NoMemory) => Err(AllocError),
+        Err(_) => Ok(()),
     }
 }
 
@@ -46,7 +44,13 @@ pub fn append_record(
     }
 }
 
-// Whether the call changes nothing.
+/// Whether the call only looks: it changes nothing.
+pub fn only_looks(app: AppAttempt, op: &Op) -> bool
+    ensures { IsTrue result → (s : State) → (call_of s (master app) op.now).1 ≡ s }
+{
+    is_look(op)
+}
+
 fn is_look(op: &Op) -> bool
     ensures { result ≡ is_look op.now }
 {

@@ -61,11 +61,9 @@ fn answer(
     ensures ok { IfOk result (λ answer. answer_of names.old call.now ≡ (answer, names.new)) }
     ensures err { OnErr result (names.new ≡ names.old) }
 {
-    match names.foresee(call.caller, &call.op) {
-        Some(refusal) => Ok(Err(refusal)),
-        None => match names.perform(call.caller, &call.op) {
-            Ok(answer) => Ok(Ok(answer)),
-            Err(fault) => Err(fault.wants_memory()),
-        },
+    match names.perform(call.caller, &call.op) {
+        Ok(answer) => Ok(Ok(answer)),
+        Err(NameFault::NoMemory) => Err(AllocError),
+        Err(refusal) => Ok(Err(refusal)),
     }
 }

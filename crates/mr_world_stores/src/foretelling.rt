@@ -1,10 +1,10 @@
 //! What a master, or any caller of the namespace, will hear of a store call, found out before the call is made.
-ghost use Rattle.std.specs.Prelude.{◌≡◌, ◌≤◌, None, IfOk};
+ghost use Rattle.std.specs.Prelude.{◌≡◌, ◌≤◌, Some, None, true, false, IfOk};
 ghost use Rattle.mr_names.specs.Calls.{call_of, refused, answer};
 ghost use Rattle.mr_history.specs.Calls as segments;
 ghost use Rattle.mr_world_model.specs.Stored.{master};
 ghost use Rattle.mr_master_refinement.specs.Stores.{told_of};
-ghost use Rattle.mr_world_stores.specs.Masters.{answer_to, finds_full, is_segment_full, written_as};
+ghost use Rattle.mr_world_stores.specs.Masters.{answer_to, finds_full, is_segment_full, tells_full, written_as};
 
 use crate::container::is_full;
 use mr_history::{History, HistoryFault};
@@ -23,6 +23,35 @@ pub fn finds_full(names: &Namespace, history: &History, app: AppAttempt, call: &
         StoreCall::Append(line) => is_segment_full(history.append_refusal(app, line)),
         StoreCall::Flush | StoreCall::Read => false,
     }
+}
+
+/// What both stores will answer (`master_answer`); none where a store is full (`finds_full`).
+pub fn answer_where_room(
+    names: &Namespace,
+    history: &History,
+    app: AppAttempt,
+    call: &StoreCall,
+) -> Result<Option<StoreAnswer>, AllocError>
+    requires { app ≤ history.now.fence }
+    ensures some { IfOk result (λ answer. finds_full names.now history.now app call.now ≡ false → answer ≡ Some (answer_to names.now history.now app call.now)) }
+    ensures none { IfOk result (λ answer. finds_full names.now history.now app call.now ≡ true → answer ≡ None) }
+{
+    let answer = master_answer(names, history, app, call)?;
+    if tells_full(&answer) {
+        Ok(None)
+    } else {
+        Ok(Some(answer))
+    }
+}
+
+// Whether a store answers that it is full.
+fn tells_full(answer: &StoreAnswer) -> bool
+    ensures { result ≡ tells_full answer.now }
+{
+    matches!(
+        answer,
+        StoreAnswer::Names(Err(NameFault::Full)) | StoreAnswer::Wrote(Err(HistoryFault::Full))
+    )
 }
 
 /// What both stores will answer. What changes nothing is asked for at once; of all else the answer is known

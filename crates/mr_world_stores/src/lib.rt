@@ -8,8 +8,9 @@
 //!   only looks is asked at once; of all else the answer is known beforehand. `names_answer` tells the same of the
 //!   namespace alone, for any caller.
 //! - `finds_full` and `would_be_full` tell, without memory, whether a call would be refused for want of room.
+//!   `answer_where_room` tells the answer, and none where it would.
 //! - `change_names` and `append_record` leave a store as the call leaves it, refused or not. Where memory is refused,
-//!   nothing has changed.
+//!   nothing has changed. `only_looks` tells which calls leave any namespace as it is.
 //! - `answer_container` makes a container's call in a weather, and tells what the container hears. Where memory is
 //!   refused, nothing has changed.
 //! - `is_made` tells whether a call is made in a weather, and `tell_ranges` that the numbers of a record that is
@@ -22,8 +23,8 @@ mod foretelling;
 mod ranges;
 mod weather;
 
-pub use changing::{append_record, change_names};
+pub use changing::{append_record, change_names, only_looks};
 pub use container::{ContainerCall, answer_container, would_be_full};
-pub use foretelling::{finds_full, master_answer, names_answer};
+pub use foretelling::{answer_where_room, finds_full, master_answer, names_answer};
 pub use ranges::tell_ranges;
 pub use weather::is_made;

@@ -75,7 +75,10 @@ pub record PlayersLookAlike (p q : Player) : Type 0 where
   pub ahead : HaveOneAhead (cluster_in p).bag (cluster_in q).bag (state_in p).cursor (state_in q).cursor
   pub asking : asking_last (cluster_in p).bag ≡ asking_last (cluster_in q).bag
   pub dropped : AreDroppedAlike (state_in p) (state_in q)
-  pub came : AllByRecursion (CameToo p q (state_in q).events) (state_in p).events
+
+-- each packet that came in the first came in the second
+abbrev pub HasComeToo : Player → Player → Type 0
+HasComeToo p q = AllByRecursion (CameToo p q (state_in q).events) (state_in p).events
 
 abbrev pub IsOwedAlike : Player → Player → Fault → Fault → Type 0
 IsOwedAlike p q f g = IsOneLater (cluster_in p).bag (cluster_in q).bag (state_in p).cursor (state_in q).cursor f g
@@ -102,3 +105,8 @@ pub record AreSame (j k : Journal) : Type 0 where
   pub alike : Alike j.config (world_in j) (world_in k)
   pub config : j.config ≡ k.config
   pub history : history_in j ≡ history_in k
+
+-- where two plays have led
+pub record HaveLedAlike (p q : Player) : Type 0 where
+  pub same : AreSame p.world q.world
+  pub came : HasComeToo p q

@@ -71,6 +71,13 @@ pub record SameGraph (old new : Slab Place) : Type 0 where
 abbrev pub SamePlace : Place → Place → Type 0
 SamePlace old new = (new.node ≡ old.node) × (new.children.entries ≡ old.children.entries)
 
+-- under one key of each there is nothing in both, or the same node with the same edges
+abbrev pub AreSamePlaces : Option Place → Option Place → Type 0
+AreSamePlaces None None = Unit {0}
+AreSamePlaces None (Some new) = ⊥
+AreSamePlaces (Some old) None = ⊥
+AreSamePlaces (Some old) (Some new) = SamePlace old new
+
 -- a node with no edges is added at the end of a new edge, and all else stays
 pub record NodeAdded (old new : Slab Place) (at : ℕ) (name : List ℕ) (node : Node) (key : ℕ) : Type 0 where
   pub vacant : nodes_of old key ≡ None

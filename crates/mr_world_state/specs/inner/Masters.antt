@@ -27,15 +27,3 @@ pub record Ceases (old : Masters) (k : ℕ) (new : Masters) : Type 0 where
 pub record Returns (old : Masters) (k : ℕ) (m : master.Master) (new : Masters) : Type 0 where
   pub count : master_count new ≡ master_count old
   pub kept : ChangesMaster old k (Some m) new
-
--- of one place: a machine that stands for what the other stood for, where there was one
-abbrev pub IsCopied : Option master.Master → Option master.Master → Type 0
-IsCopied None None = Unit {0}
-IsCopied None (Some m) = ⊥
-IsCopied (Some m) None = ⊥
-IsCopied (Some m) (Some n) = master.StandsStill m n
-
--- of each generation
-pub record AreCopied (old new : Masters) : Type 0 where
-  pub count : master_count new ≡ master_count old
-  pub copied : (j : ℕ) → IsCopied (master_of old j) (master_of new j)

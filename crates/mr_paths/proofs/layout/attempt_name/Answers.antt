@@ -6,4 +6,4 @@ use Rattle.mr_paths.proofs.layout.attempt_name.Goals as goal
 
 pub from_bytes-requires : goal.from_bytes-requires
 from_bytes-requires c =
-    subst IsName (sym (c.in_ok-write.ensures.ok ∙ ap (λ text. text ++ attempt_text c.args.attempt) c.new-text.ensures.items)) (plain_name 59 (attempt_text c.args.attempt) (omega arith) c.write.ensures.plain)
+    subst IsName (sym (c.in_ok-write.ensures.ok ∙ ap (λ text. text ++ attempt_text c.args.attempt) c.in_ok-text.ensures.items)) (plain_name 59 (attempt_text c.args.attempt) (omega arith) c.write.ensures.plain)

@@ -6,4 +6,4 @@ use Rattle.mr_paths.proofs.layout.generation_name.Goals as goal
 
 pub from_bytes-requires : goal.from_bytes-requires
 from_bytes-requires c =
-    subst IsName (sym (c.in_ok-write.ensures.ok ∙ ap (λ text. text ++ numeral 1 c.args.k) c.new-text.ensures.items)) (plain_name 4 (numeral 1 c.args.k) (omega arith) c.write.ensures.plain)
+    subst IsName (sym (c.in_ok-write.ensures.ok ∙ ap (λ text. text ++ numeral 1 c.args.k) c.in_ok-text.ensures.items)) (plain_name 4 (numeral 1 c.args.k) (omega arith) c.write.ensures.plain)

@@ -6,4 +6,4 @@ use Rattle.mr_paths.proofs.layout.task_name.Goals as goal
 
 pub from_bytes-requires : goal.from_bytes-requires
 from_bytes-requires c =
-    subst IsName (sym (c.in_ok-write.ensures.ok ∙ ap (λ text. text ++ task_text c.args.task) c.new-text.ensures.items)) (plain_name 49 (task_text c.args.task) (omega arith) c.write.ensures.plain)
+    subst IsName (sym (c.in_ok-write.ensures.ok ∙ ap (λ text. text ++ task_text c.args.task) c.in_ok-text.ensures.items)) (plain_name 49 (task_text c.args.task) (omega arith) c.write.ensures.plain)

@@ -1,8 +1,9 @@
-use Rattle.std.proofs.Common.{refl, sym, ap, subst, is_some, ◌∙◌, ◌++◌, List}
+use Rattle.std.proofs.Common.{refl, sym, ap, subst, is_some, ◌∙◌, ◌++◌, List, Some}
 use Rattle.mr_packet.specs.declared.packet.Envelope.{Envelope}
 use Rattle.mr_master_model.specs.Next as next
 use Rattle.mr_master_model.specs.Past.{Launches}
 use Rattle.mr_master.specs.State as master
+use Rattle.mr_master.specs.Prepared.{PlansFor}
 use Rattle.mr_world_model.specs.World.{LaunchOn}
 use Rattle.mr_world_state.proofs.Attending.{lent, stands-still, same-stands, says-planned}
 use Rattle.mr_world_state.proofs.Launching.{dead, stands}
@@ -15,28 +16,28 @@ returns-in_default-clause-tries c = λ w s. (dead c.args.self.now c.args.k c.arg
 
 pub returns-in_err-prepared-clause-tries : goal.returns-in_err-prepared-clause-tries
 returns-in_err-prepared-clause-tries c = refused-tried c.args.self.now _ (LaunchOn c.args.k c.args.task c.args.node) c.from_residual.result c.in_err-prepared.field-0.0
-    (c.in_err-prepared.ensures.foresees c.args.self.now c.args.k (record { bag = refl; at = sym c.in-Some.ensures.value }) refl)
+    (c.in_err-prepared.ensures.foresees c.args.self.now c.args.k (record { bag = refl; at = sym c.in-Some.ensures.value ∙ ap Some (sym c.deref.ensures) }) refl)
     (λ w s. stands-still c.args.self.now w c.args.k _ c.args.self.now.bag c.in-Some.machine.now c.in-Some.machine.now s (sym c.in-Some.ensures.value)
     (lent c.get_mut.result c.in-Some.machine c.in-Some.is (c.get_mut.follows.holds c.in-Some.machine.now)) (same-stands c.in-Some.machine.now) refl) c.from_residual.ensures.1
 
 pub returns-in_err-take_step-clause-tries : goal.returns-in_err-take_step-clause-tries
 returns-in_err-take_step-clause-tries c = memory-tried c.args.self.now _ (LaunchOn c.args.k c.args.task c.args.node) c.from_residual-in_err-take_step.result
-    (c.in_ok-prepared.ensures.foresees c.args.self.now c.args.k (record { bag = refl; at = sym c.in-Some.ensures.value }) refl)
+    (c.in_ok-prepared.ensures.foresees c.args.self.now c.args.k (record { bag = refl; at = sym c.in-Some.ensures.value ∙ ap Some (sym c.deref.ensures) }) refl)
     (λ w s. stands-still c.args.self.now w c.args.k _ c.take_step.new.bag c.in-Some.machine.now c.take_step.new.machine s (sym c.in-Some.ensures.value)
     (lent c.get_mut.result c.in-Some.machine c.in-Some.is (c.get_mut.follows.holds c.take_step.new.machine)) c.in_err-take_step.ensures.still c.in_err-take_step.ensures.unsent) c.from_residual-in_err-take_step.ensures.1
 
 pub take_step-requires-clause-planned : goal.take_step-requires-clause-planned
-take_step-requires-clause-planned c = (Launches c.args.task c.args.node, c.in_ok-prepared.ensures.planned)
+take_step-requires-clause-planned c = (Launches c.args.task c.args.node, subst (λ m. PlansFor m (Launches c.args.task c.args.node) c.in_ok-prepared.prepared) c.deref.ensures c.in_ok-prepared.ensures.planned)
 
 pub returns-clause-tries : goal.returns-clause-tries
 returns-clause-tries c = λ w s.
-    let t = c.in_ok-prepared.ensures.foresees c.args.self.now c.args.k (record { bag = refl; at = sym c.in-Some.ensures.value }) refl w s in
+    let t = c.in_ok-prepared.ensures.foresees c.args.self.now c.args.k (record { bag = refl; at = sym c.in-Some.ensures.value ∙ ap Some (sym c.deref.ensures) }) refl w s in
     let one = c.in_ok-prepared.ensures.one in
     let m = c.in-Some.machine.now in
-    let says = says-planned m (Launches c.args.task c.args.node) c.in_ok-prepared.prepared c.in_ok-prepared.ensures.planned in (
+    let says = says-planned m (Launches c.args.task c.args.node) c.in_ok-prepared.prepared (subst (λ m. PlansFor m (Launches c.args.task c.args.node) c.in_ok-prepared.prepared) c.deref.ensures c.in_ok-prepared.ensures.planned) in (
       t,
       stands c.args.self.now w c.args.k c.args.task c.args.node _ c.take_step.new.bag m c.take_step.new.machine one.0 s t (sym c.in-Some.ensures.value)
-          (lent c.get_mut.result c.in-Some.machine c.in-Some.is (c.get_mut.follows.holds c.take_step.new.machine)) (c.in_ok-take_step.ensures.stands (Launches c.args.task c.args.node) c.in_ok-prepared.ensures.planned)
+          (lent c.get_mut.result c.in-Some.machine c.in-Some.is (c.get_mut.follows.holds c.take_step.new.machine)) (c.in_ok-take_step.ensures.stands (Launches c.args.task c.args.node) (subst (λ m. PlansFor m (Launches c.args.task c.args.node) c.in_ok-prepared.prepared) c.deref.ensures c.in_ok-prepared.ensures.planned))
           (subst (λ (es : List Envelope). master.Answers m (λ w past. next.sent w past (Launches c.args.task c.args.node)) es) one.1 says)
           (c.in_ok-take_step.ensures.sent ∙ ap (λ es. c.args.self.now.bag.packets ++ es) one.1),
     )
