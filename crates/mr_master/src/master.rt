@@ -8,7 +8,7 @@ ghost use Rattle.mr_master_model.specs.Duty.{duty};
 ghost use Rattle.mr_master_model.specs.Past.{Step, Launches, Hears, Expires, Answered, phase_of};
 ghost use Rattle.mr_master_model.specs.Readings.{launch_refusal, expire_refusal, wanted};
 ghost use Rattle.mr_master_model.specs.Next.{seen, sent};
-ghost use Rattle.mr_master_events.specs.mr_master_state.specs.Prepared.{IsOne, IsExpiry, PlansFor, IsReadyFor, IsReadyForStep};
+ghost use Rattle.mr_master_events.specs.mr_master_state.specs.Prepared.{IsNothing, IsOne, IsExpiry, PlansFor, IsReadyFor, IsReadyForStep};
 ghost use Rattle.mr_master_events.specs.mr_master_state.specs.Same.{SameMachines};
 ghost use Rattle.mr_master_events.specs.Refused.{launch_error};
 
@@ -229,6 +229,15 @@ impl MasterMachine {
     {
         let prepared = ready_for(&self.machine, answer, self.passed)?;
         Ok(prepared)
+    }
+
+    /// Whether the step that was prepared sends nothing and changes nothing, as that of a packet that is not heard. Then
+    /// it need not be taken: the master stands for it as it is.
+    pub fn is_left_by(&self, prepared: &Prepared) -> bool
+        ensures nothing { IsTrue result ↔ IsNothing prepared.now }
+        ensures stands { IsTrue result → (step : Step) → PlansFor self.now step prepared.now → Stands self.now step self.now }
+    {
+        prepared.is_nothing()
     }
 
     /// Makes room for what is prepared. Nothing else changes, also where memory is refused: the master stands for

@@ -12,6 +12,7 @@ use Rattle.mr_master_model.specs.Past.{Step, Answered}
 use Rattle.mr_master_model.specs.Readings.{Seen}
 use Rattle.mr_master_model.specs.Duty.{duty}
 use Rattle.mr_master_model.specs.Next.{moved, sent_by, next_seen, seen, with_kills}
+use Rattle.mr_master_model.specs.Sends.{killed_by}
 use Rattle.mr_master_model.proofs.Killing.{kills_go_to_launched}
 use Rattle.mr_master_tables.specs.Bars.{Bars}
 use Rattle.mr_master_tables.specs.Launches.{Launched}
@@ -19,7 +20,7 @@ use Rattle.mr_master_tables.specs.Records.{Writing}
 use Rattle.mr_master_state.specs.declared.change.Change.{Change}
 use Rattle.mr_master_state.specs.declared.change.Change.TheVariants as change
 use Rattle.mr_master_phase.specs.Answering.{answered_sends, answered_seen}
-use Rattle.mr_master_state.specs.Prepared.{Prepared, changed_by, IsAt, IsSound, HasRoom, Plans, PlansFor, IsReadyFor, PlansDue}
+use Rattle.mr_master_state.specs.Prepared.{Prepared, changed_by, IsAt, IsNothing, IsSound, HasRoom, Plans, PlansFor, IsReadyFor, PlansDue}
 use Rattle.mr_master_state.specs.State.{Master, Keeps, Reads, MovesOn, Stands, Unchanged}
 use Rattle.mr_master_state.proofs.Standing.{keeps-back}
 
@@ -91,3 +92,10 @@ step-stands old new step r x moves w past k =
     let s = seen w past in
     let spared = kills_go_to_launched w past (length s.launched) (grind (arith, nat_tests)) in
     subst (λ (t : Seen). Keeps new w t) (λ i. with_kills (x.sent w s k i) (x.seen w s k i)) (moves w s k spared)
+
+-- nothing is sent and nothing changes: it stands for the step as it is
+pub nothing-stands : (m : Master) (step : Step) (r : Prepared) → IsNothing r → PlansFor m step r → Stands m step m
+unfolding killed_by
+nothing-stands m step r none x = step-stands m m step r x (λ w s k spared.
+    subst (λ (c : Change). Keeps m w (with_kills r.packets (changed_by w s c))) (sym none.still)
+    (subst (λ (l : List Envelope). Keeps m w (with_kills l s)) (sym none.silent) k))

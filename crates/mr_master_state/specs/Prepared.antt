@@ -88,6 +88,11 @@ IsSound m (change.Knows n incarnation nodes dead lost) = KnowsThen m n incarnati
 IsSound m (change.Launches place a machine launch) = LaunchesAt m place a machine
 IsSound m _ = Unit
 
+-- nothing is sent, and nothing changes
+pub record IsNothing (p : Prepared) : Type 0 where
+  pub silent : p.packets ≡ []
+  pub still : p.change ≡ change.Nothing
+
 -- ---- room
 
 -- for this number of records

@@ -1,7 +1,8 @@
 //! What a step changes, decided before it is taken.
-ghost use Rattle.std.specs.Prelude.{◌≡◌};
+ghost use Rattle.std.specs.Prelude.{◌≡◌, ◌↔◌, IsTrue};
 ghost use Rattle.mr_master_state.specs.Prepared.{room_of};
 ghost use Rattle.mr_master_state.specs.Told.{due_count};
+ghost use Rattle.mr_master_state.specs.declared.change.Change.TheVariants as change;
 
 use crate::blame::Blame;
 use crate::boxed::Boxed;
@@ -137,6 +138,13 @@ pub enum Room {
 }
 
 impl Change {
+    // Whether nothing changes.
+    pub(crate) fn is_nothing(&self) -> bool
+        ensures { IsTrue result ↔ self.now ≡ change.Nothing }
+    {
+        matches!(self, Change::Nothing)
+    }
+
     // What room it wants.
     pub(crate) fn room(&self) -> Room
         ensures { result ≡ room_of self.now }

@@ -1,11 +1,11 @@
 //! What is prepared before a step is taken.
 //! Each step goes the same way: it is prepared, room is made for it, and it is taken.
-ghost use Rattle.std.specs.Prelude.{◌≡◌, [], ◌∷◌, ◌++◌, drop, IfOk, OnOk, OnErr};
+ghost use Rattle.std.specs.Prelude.{◌≡◌, ◌↔◌, [], ◌∷◌, ◌++◌, drop, IsTrue, IfOk, OnOk, OnErr};
 ghost use Rattle.mr_master_tables.specs.Earlier.{listed};
 ghost use Rattle.mr_commit.specs.Halves.{Fits};
 ghost use Rattle.mr_master_model.specs.Answered.{flushed};
 ghost use Rattle.mr_master_model.specs.Next.{with_kills};
-ghost use Rattle.mr_master_state.specs.Prepared.{changed_by, room_of, IsSound, HasRoom, HasLaunchRoom, IsExpiry};
+ghost use Rattle.mr_master_state.specs.Prepared.{changed_by, room_of, IsNothing, IsSound, HasRoom, HasLaunchRoom, IsExpiry};
 ghost use Rattle.mr_master_state.specs.State.{Moves, MovesOn, Unchanged};
 ghost use Rattle.mr_master_phase.specs.WorkKinds.{left_of, with_left, others_of, with_others};
 ghost use Rattle.mr_master_phase.specs.Taking.{winner_of, after_winner, after_table};
@@ -104,6 +104,13 @@ impl Prepared {
         ensures { result ≡ room_of self.now.change }
     {
         self.change.room()
+    }
+
+    /// Whether nothing will be sent, and nothing will change.
+    pub fn is_nothing(&self) -> bool
+        ensures { IsTrue result ↔ IsNothing self.now }
+    {
+        self.packets.is_empty() && self.change.is_nothing()
     }
 
     /// The packets that will be sent, in order.

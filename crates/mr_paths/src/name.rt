@@ -136,7 +136,11 @@ impl Ord for Name {
 
     ghost matches_eq = { Prim.search (comparing, rules) };
 
+    // Most names that are compared are equal, which is told at once.
     fn cmp(&self, other: &Name) -> Ordering {
+        if self == other {
+            return Ordering::Equal;
+        }
         self.bytes.as_slice().cmp(other.bytes.as_slice())
     }
 }

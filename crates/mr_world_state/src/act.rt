@@ -72,7 +72,8 @@ pub fn act(machine: &mut MasterMachine, bag: &mut Bag, prepared: Prepared)
     push_all(bag, packets);
 }
 
-/// The same three in one call. Where memory is refused nothing changes but spare room.
+/// The same three in one call. Where memory is refused nothing changes but spare room. A machine that the step leaves as
+/// it is stays shared.
 pub fn take_step(
     machine: &mut Shared<MasterMachine>,
     bag: &mut Bag,
@@ -85,6 +86,9 @@ pub fn take_step(
     ensures still { OnErr result (StandsStill machine.old machine.new) }
     ensures unsent { OnErr result (bag.new.packets ≡ bag.old.packets) }
 {
+    if machine.is_left_by(&prepared) {
+        return Ok(());
+    }
     let machine = own(machine)?;
     make_room(machine, bag, &prepared)?;
     act(machine, bag, prepared);

@@ -3,7 +3,7 @@
 use crate::answers::{Said, Then, answers};
 use crate::masters::{MAP, REDUCE, due, launched, running, wants};
 use crate::stopping::launches;
-use crate::told::{Told, hears};
+use crate::told::{Told, hears, leaves};
 use mr_master::MasterMachine;
 use mr_master_model::DutyName;
 use std::alloc::Global;
@@ -29,6 +29,18 @@ fn unknown_ones_are_not_heard(rt: HostRuntime) {
     ];
     hears(rt, &mut master, rows);
     confirm!(rt; due(rt, &master).is_none());
+}
+
+// What is not heard leaves the master as it is. What is heard, or answered, does not.
+#[test]
+fn what_is_not_heard_leaves_the_master(rt: HostRuntime) {
+    let rt = &rt;
+    let mut master = running(rt, rt.alloc(), 0, 1);
+    launches(rt, &mut master);
+    confirm!(rt; leaves(rt, &master, Told::Pending, 1));
+    confirm!(rt; leaves(rt, &master, Told::Ended, 1));
+    confirm!(rt; !leaves(rt, &master, Told::Pending, 0));
+    confirm!(rt; !leaves(rt, &master, Told::Failed, 0));
 }
 
 // A master whose map is Succeeded on node 0, and whose reduce is launched on node 1.

@@ -47,6 +47,15 @@ pub fn heard(
     master.hear(&packet).expect(rt, "no memory")
 }
 
+/// Whether that leaves the master as it is, and nothing is sent for it.
+pub fn leaves(rt: &impl Abort, master: &MasterMachine, told: Told, number: u32) -> bool {
+    let packet = packet(rt, told, number);
+    let prepared = master.prepare_packet(&packet).expect(rt, "no memory");
+    let leaves = master.is_left_by(&prepared);
+    drop(prepared);
+    leaves
+}
+
 // The packet that tells it.
 fn packet(rt: &impl Abort, told: Told, number: u32) -> Packet {
     let c = container(rt, number);
