@@ -1,63 +1,54 @@
--- How many packets lie last that only ask, counted from the first on.
-use Rattle.std.proofs.Common.{ℕ, suc, ◌+◌, ◌-◌, ◌≤◌, ◌<◌, ◌≡◌, refl, sym, ◌∙◌, ap, arith, Bool, true, false, ◌&&◌, List, [], ◌∷◌, ◌++◌, take, length, length-append, get_or, if◌then◌else◌}
+-- How many packets lie last that only ask, counted from the last on.
+use Rattle.std.proofs.Common.{ℕ, zero, suc, ◌+◌, ◌<◌, ◌≡◌, refl, sym, ◌∙◌, ap, arith, Bool, true, false, ◌&&◌, true≢false, List, [], ◌∷◌, drop, length, get_or, if◌then◌else◌}
 use Rattle.std.specs.List.{list_all}
-use Rattle.std.proofs.Math.Seq.{take-length}
-use Rattle.std.proofs.lemmas.List.{take_more}
-use Rattle.std.proofs.lemmas.List.Folds.{list_all-append}
 use Rattle.mr_packet.specs.declared.packet.Envelope.{Envelope}
 use Rattle.mr_explore.specs.Vain.{asks_in}
 use Rattle.mr_explore_likeness.specs.Plays.{asking_last}
 
-and-true : (b : Bool) → (b && true) ≡ b
-and-true true = refl
-and-true false = refl
+-- from this place on each only asks
+abbrev pub AskFrom : List Envelope → ℕ → Type 0
+AskFrom es from = list_all asks_in (drop from es) ≡ true
 
-and-false : (b : Bool) → (b && false) ≡ false
-and-false true = refl
-and-false false = refl
+and-left : (b c : Bool) → (b && c) ≡ true → b ≡ true
+and-left true c e = refl
+and-left false c e = e
 
--- one packet more behind them
-pub asking-push : (es : List Envelope) (e : Envelope) → asking_last (es ++ e ∷ []) ≡ (if asks_in e then suc (asking_last es) else 0)
-asking-push [] e = by (asks_in e)
+and-right : (b c : Bool) → (b && c) ≡ true → c ≡ true
+and-right true c e = e
+and-right false c e = absurd (true≢false (sym e))
+
+-- none lies behind the last one
+pub none-behind : (es : List Envelope) → AskFrom es (length es)
+none-behind [] = refl
+none-behind (x ∷ es) = none-behind es
+
+-- one more
+pub one-more : (es : List Envelope) (place : ℕ) (e : Envelope) → place < length es → e ≡ get_or es place e → asks_in e ≡ true → AskFrom es (suc place) → AskFrom es place
+one-more [] place e less is asks all = absurd (omega (arith, less))
+one-more (x ∷ es) zero e less is asks all = ap (λ b. b && list_all asks_in es) (ap asks_in (sym is) ∙ asks) ∙ all
+one-more (x ∷ es) (suc place) e less is asks all = one-more es place e (omega (arith, less)) is asks all
+
+-- one that does not ask lies among them
+not-all : (es : List Envelope) (place : ℕ) (e : Envelope) → place < length es → e ≡ get_or es place e → asks_in e ≡ false → list_all asks_in es ≡ false
+not-all [] place e less is asks = absurd (omega (arith, less))
+not-all (x ∷ es) zero e less is asks = ap (λ b. b && list_all asks_in es) (ap asks_in (sym is) ∙ asks)
+not-all (x ∷ es) (suc place) e less is asks = ap (λ b. asks_in x && b) (not-all es place e (omega (arith, less)) is asks) ∙ none (asks_in x)
   where
-    by : (b : Bool) → ◌≡◌ {A = ℕ} (if true then (if b then 1 else 0) else 0) (if b then 1 else 0)
-    by true = refl
-    by false = refl
-asking-push (x ∷ es) e =
-    ap (λ c. if c then (if asks_in x then suc (length (es ++ e ∷ [])) else length (es ++ e ∷ [])) else asking_last (es ++ e ∷ [])) (list_all-append asks_in es (e ∷ []))
-    ∙ by (list_all asks_in es) (asks_in x) (asks_in e) refl refl (asking-push es e)
-  where
-    long : length (es ++ e ∷ []) ≡ suc (length es)
-    long = let l = length-append es (e ∷ []) in omega (arith, l)
+    none : (b : Bool) → (b && false) ≡ false
+    none true = refl
+    none false = refl
 
-    by : (b c d : Bool) → asks_in e ≡ d → list_all asks_in es ≡ b → asking_last (es ++ e ∷ []) ≡ (if asks_in e then suc (asking_last es) else 0)
-        → (if b && (d && true) then (if c then suc (length (es ++ e ∷ [])) else length (es ++ e ∷ [])) else asking_last (es ++ e ∷ [])) ≡ (if d then suc (if b then (if c then suc (length es) else length es) else asking_last es) else 0)
-    by true true true p q r = ap suc long
-    by true false true p q r = long
-    by true c false p q r = r ∙ ap (λ b. if b then suc (asking_last es) else 0) p
-    by false c true p q r = r ∙ ap (λ b. if b then suc (asking_last es) else 0) p
-    by false c false p q r = r ∙ ap (λ b. if b then suc (asking_last es) else 0) p
+-- so many lie behind the last one that does not ask
+pub counted : (es : List Envelope) (place n : ℕ) (e : Envelope) → suc place + n ≡ length es → e ≡ get_or es place e → asks_in e ≡ false → AskFrom es (suc place) → n ≡ asking_last es
+counted [] place n e many is asks all = absurd (omega (arith, many))
+counted (x ∷ es) zero n e many is asks all =
+    let behind : n ≡ length es = omega (arith, many) in
+    behind ∙ sym (ap (λ b. if b then (if asks_in x then suc (length es) else length es) else asking_last es) all ∙ ap (λ b. if b then suc (length es) else length es) (ap asks_in (sym is) ∙ asks))
+counted (x ∷ es) (suc place) n e many is asks all =
+    counted es place n e (omega (arith, many)) is asks all ∙ sym (ap (λ b. if b then (if asks_in x then suc (length es) else length es) else asking_last es) (not-all es place e (omega (arith, many)) is asks))
 
--- of the first packets of a bag, and one more
-pub asking-next : (es : List Envelope) (i : ℕ) (e : Envelope) → i < length es → e ≡ get_or es i e → asking_last (take (i + 1) es) ≡ (if asks_in e then suc (asking_last (take i es)) else 0)
-asking-next es i e less is = ap asking_last (take_more es i e less ∙ ap (λ x. take i es ++ x ∷ []) (sym is)) ∙ asking-push (take i es) e
-
--- where they begin that lie last
-pub record Begins (es : List Envelope) (place from : ℕ) : Type 0 where
-  pub within : from ≤ place
-  pub counted : asking_last (take place es) ≡ place - from
-
-pub one-asks : (es : List Envelope) (place from : ℕ) (e : Envelope) → place < length es → e ≡ get_or es place e → asks_in e ≡ true → Begins es place from → Begins es (place + 1) from
-one-asks es place from e less is asks b = record {
-  within = let l = b.within in omega (arith, l);
-  counted = asking-next es place e less is ∙ (ap (λ c. if c then suc (asking_last (take place es)) else 0) asks ∙ (let l = b.within in let n = b.counted in omega (arith, l, n)));
-}
-
-pub other-lies : (es : List Envelope) (place : ℕ) (e : Envelope) → place < length es → e ≡ get_or es place e → asks_in e ≡ false → Begins es (place + 1) (place + 1)
-other-lies es place e less is asks = record {
-  within = omega arith;
-  counted = asking-next es place e less is ∙ (ap (λ c. if c then suc (asking_last (take place es)) else 0) asks ∙ (omega arith));
-}
-
-pub all-counted : (es : List Envelope) (from : ℕ) → Begins es (length es) from → length es - from ≡ asking_last es
-all-counted es from b = sym b.counted ∙ ap asking_last (take-length es)
+-- all ask
+pub all-ask : (es : List Envelope) → AskFrom es 0 → length es ≡ asking_last es
+all-ask [] all = refl
+all-ask (x ∷ es) all =
+    sym (ap (λ b. if b then (if asks_in x then suc (length es) else length es) else asking_last es) (and-right (asks_in x) (list_all asks_in es) all) ∙ ap (λ b. if b then suc (length es) else length es) (and-left (asks_in x) (list_all asks_in es) all))

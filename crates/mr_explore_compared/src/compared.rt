@@ -2,6 +2,7 @@
 ghost use Rattle.std.specs.Prelude.{◌≡◌};
 ghost use Rattle.mr_explore.specs.Runs.{explored};
 
+use crate::digest::Digest;
 use mr_explore::{Explored, Fault};
 use mr_explore_search::{Run, WalkFault};
 use std::alloc::Global;
@@ -12,6 +13,8 @@ use std::marker::Model;
 #[derive(Drop)]
 pub struct Compared {
     run: Explored,
+    // For its mark. No contract speaks of it.
+    digest: Digest,
 }
 
 impl Model for Compared {
@@ -27,14 +30,17 @@ impl Compared {
     pub fn new(run: Explored) -> Compared
         ensures { result ≡ run }
     {
-        Compared { run }
+        Compared {
+            run,
+            digest: Digest::new(),
+        }
     }
 
     /// The same run.
     pub fn into_run(self) -> Explored
         ensures { result ≡ self }
     {
-        let Compared { run } = self;
+        let Compared { run, digest: _ } = self;
         run
     }
 
@@ -43,6 +49,18 @@ impl Compared {
         ensures { result.now ≡ self.now }
     {
         &self.run
+    }
+
+    // What its events tell, as far as they were looked at.
+    pub(crate) fn digest(&self) -> Digest {
+        self.digest
+    }
+
+    // Its events are looked at.
+    fn look(&mut self)
+        ensures { self.new ≡ self.old }
+    {
+        self.digest = self.digest.of_all(self.run.world());
     }
 }
 
@@ -53,13 +71,18 @@ impl Run for Compared {
 
     fn fork(&self, alloc: Global) -> Result<Compared, WalkFault> {
         match self.run.fork(alloc) {
-            Ok(run) => Ok(Compared { run }),
+            Ok(run) => Ok(Compared {
+                run,
+                digest: self.digest,
+            }),
             Err(fault) => Err(fault),
         }
     }
 
     fn go_on(&mut self, alloc: Global) -> Result<bool, WalkFault> {
-        self.run.go_on(alloc)
+        let went = self.run.go_on(alloc);
+        self.look();
+        went
     }
 
     fn faults(&self, alloc: Global) -> Result<LinkedList<Fault>, WalkFault> {
@@ -75,6 +98,8 @@ impl Run for Compared {
     }
 
     fn befall(&mut self, alloc: Global, fault: Fault) -> Result<bool, WalkFault> {
-        self.run.befall(alloc, fault)
+        let befell = self.run.befall(alloc, fault);
+        self.look();
+        befell
     }
 }

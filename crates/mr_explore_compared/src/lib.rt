@@ -14,6 +14,7 @@
 mod compared;
 mod comparing;
 mod deliveries;
+mod digest;
 mod dropping;
 mod marked;
 mod marking;

@@ -4,7 +4,7 @@ ghost use Rattle.mr_explore_likeness.specs.Runs.{before, ends, like, rest, void}
 
 use crate::compared::Compared;
 use crate::comparing::is_like;
-use crate::marking::mark;
+use crate::marking::mark_with;
 use mr_explore::Fault;
 use mr_explore_alike::AlikeRun;
 use mr_explore_places::MarkedRun;
@@ -34,7 +34,7 @@ impl MarkedRun for Compared {
     }
 
     fn mark(&self, _alloc: Global, owed: &[Fault]) -> Result<u64, WalkFault> {
-        mark(self.run(), owed)
+        mark_with(self.run(), self.digest(), owed)
     }
 
     fn is_like(

@@ -106,11 +106,10 @@ fn are_packets(packets: &[Envelope], others: &[Envelope]) -> bool
 pub fn asking_last(bag: &[Envelope]) -> usize
     ensures { result ≡ asking_last bag.now }
 {
-    let mut from = 0;
-    for place in 0..bag.len() {
-        if !asks_in(&bag[place]) {
-            from = place + 1;
+    for last in 0..bag.len() {
+        if !asks_in(&bag[bag.len() - 1 - last]) {
+            return last;
         }
     }
-    bag.len() - from
+    bag.len()
 }

@@ -45,7 +45,7 @@ each_has_one_end bounds first a b c d = ends_once bounds.steps bounds.faults fir
 
 module _ (lost : NoCarefulEndIsLost) (itself : RunsAreLikeThemselves) (input : List ℕ) (budget : ℕ) (first : Exploring) (is_run : IsRunOf input first) (made known : List (Here Exploring Fault)) (found : List (Found Exploring)) (alone : (h : Here Exploring Fault) → In h (made ++ known) → In h made) where
   abbrev Done : Type 0
-  Done = HasDone explored rest before void (like false) ends budget most_events first (whole first) known [] [] made found
+  Done = HasDone explored rest before void (like false) ends budget most_events first (whole first) known [] [] [] made found
 
   goes_first : first.past_limit ≡ false
   goes_first = (itself false input first is_run).goes
@@ -81,6 +81,6 @@ module _ (lost : NoCarefulEndIsLost) (itself : RunsAreLikeThemselves) (input : L
 pub finds : NoCarefulEndIsLost → RunsAreLikeThemselves → (input : List ℕ) (bounds : Bounds) (first : Exploring) (t : Table) → IsRunOf input first → bounds.steps ≡ most_events
     → HasAll explored rest before void (like false) ends end_of events_of bounds first (whole first) [] t → Finds bounds.faults first t
 finds lost itself input bounds first t is steps all =
-    let done : (n : ℕ) → bounds.steps ≡ n → HasDone explored rest before void (like false) ends bounds.faults n first (whole first) all.1.1 [] [] all.1.0 all.0
-    = λ n e. subst (λ (m : ℕ). HasDone explored rest before void (like false) ends bounds.faults m first (whole first) all.1.1 [] [] all.1.0 all.0) e all.1.2 in
+    let done : (n : ℕ) → bounds.steps ≡ n → HasDone explored rest before void (like false) ends bounds.faults n first (whole first) all.1.1 [] [] [] all.1.0 all.0
+    = λ n e. subst (λ (m : ℕ). HasDone explored rest before void (like false) ends bounds.faults m first (whole first) all.1.1 [] [] [] all.1.0 all.0) e all.1.2 in
     finds_by lost itself input bounds.faults first is all.1.0 all.1.1 all.0 (whole_alone explored rest before void (like false) ends bounds.faults bounds.steps first all.1.0 all.1.1 all.1.3) t (done most_events steps) all.2

@@ -24,8 +24,8 @@
 //! - **What is kept**: 5,120 rows of four places of runs that may have one more fault, and with threads a quarter as many more. Other numbers change how long
 //!   it takes, and nothing else. One row of five is for runs with more than one fault (mr_explore_places): by three faults a search has 180 times as many
 //!   of their places, and makes twice as many runs where these push the others out.
-//! - **Runs that have as many faults as they may** are looked up among these and not kept: when 2,048 of them were, the search made a fifth fewer events and took
-//!   longer.
+//! - **Runs that have as many faults as they may** are looked up among these and not kept. They go on side by side, up to 1,024 of them, and are compared with each other
+//!   at first (mr_explore_places): less than half of the events is left.
 //! - **A place holds a whole run.** The number of rows does not look at how large that is: behind a script that starts 1,000 masters a search by one fault
 //!   took 6.4 GB.
 //! - **A goal** is sought by 0 faults, then by 1, and so on. A job with one split has 1, 1,148 and 847,413 runs with at most 0, 1 and 2 faults, so the

@@ -7,6 +7,7 @@ use Rattle.mr_explore_alike.specs.Leaving.{Here, IsTaken}
 use Rattle.mr_explore_alike.proofs.Leaving.{no_end}
 use Rattle.mr_explore_alike.proofs.Void.{either, itself, true-is-not-false}
 use Rattle.mr_explore_places.specs.Places.{DepartsByFault, DepartsLate, beginning, behind_step}
+use Rattle.mr_explore_places.specs.Fronts.{IsUnderway}
 use Rattle.mr_explore_places.specs.Levels.{IsLeft, IsOnTrail, IsOnTrails, LeadsTo}
 use Rattle.mr_explore_places.specs.Searching.{AreKnownOf, HasDone, WillBeTaken}
 use Rattle.mr_explore_places.specs.State.{whole}
@@ -86,10 +87,11 @@ module _ {S F : Type 0} (steps : Steps S F) (rest : S → ℕ) (before : S → S
 
     -- what is left of those that are given away is left of some or of the others
     pub joined : ((x : Here S F) → IsLeft steps budget given x → IsLeft steps budget some x ⊎ IsLeft steps budget others x) → ((x : Here S F) → IsLeft steps budget others x → IsLeft steps budget given x) → ((x : Here S F) → IsOnTrails steps budget others x → IsOnTrails steps budget given x)
-        → HasDone steps rest before void like ends budget most first parts known [] given made found → HasDone steps rest before void like ends budget most first some theirs [] [] new more
-        → HasDone steps rest before void like ends budget most first parts known [] others (new ++ made) (more ++ found)
+        → HasDone steps rest before void like ends budget most first parts known [] [] given made found → HasDone steps rest before void like ends budget most first some theirs [] [] [] new more
+        → HasDone steps rest before void like ends budget most first parts known [] [] others (new ++ made) (more ++ found)
     joined split back trails d e = record {
       on_way = λ x i. d.on_way x (back x i);
+      go_on = λ g i. absurd i;
       runs = λ r i. one r (in_either r more found i);
       trodden = λ x i. of-ours x (d.trodden x (trails x i));
       began = λ x i v. turned x v (d.began x i v);
@@ -114,13 +116,29 @@ module _ {S F : Type 0} (steps : Steps S F) (rest : S → ℕ) (before : S → S
       one r (inl i) = e.runs r i
       one r (inr i) = d.runs r i
 
-      goes : (h : Here S F) (t : S) → steps.onward h.run ≡ Goes t → In h new ⊎ In h made → Will All (behind_step h t)
-      goes h t w (inl i) = of-part (behind_step h t) (e.goes h t i w)
-      goes h t w (inr i) = old (behind_step h t) (d.goes h t i w)
+      part-goes : (h : Here S F) (t : S) → Will (new ++ theirs) (behind_step h t) ⊎ IsUnderway [] h → Will All (behind_step h t) ⊎ IsUnderway [] h
+      part-goes h t (inl i) = inl (of-part (behind_step h t) i)
+      part-goes h t (inr u) = inr u
 
-      ended : (h : Here S F) (t : S) → steps.onward h.run ≡ Ends t → In h new ⊎ In h made → In (Run h.faults t) (more ++ found)
-      ended h t w (inl i) = in_left (Run h.faults t) more found (e.ended h t i w)
-      ended h t w (inr i) = in_right (Run h.faults t) more found (d.ended h t i w)
+      old-goes : (h : Here S F) (t : S) → Will (made ++ known) (behind_step h t) ⊎ IsUnderway [] h → Will All (behind_step h t) ⊎ IsUnderway [] h
+      old-goes h t (inl i) = inl (old (behind_step h t) i)
+      old-goes h t (inr u) = inr u
+
+      goes : (h : Here S F) (t : S) → steps.onward h.run ≡ Goes t → In h new ⊎ In h made → Will All (behind_step h t) ⊎ IsUnderway [] h
+      goes h t w (inl i) = part-goes h t (e.goes h t i w)
+      goes h t w (inr i) = old-goes h t (d.goes h t i w)
+
+      part-ended : (r : Found S) (h : Here S F) → In r more ⊎ IsUnderway [] h → In r (more ++ found) ⊎ IsUnderway [] h
+      part-ended r h (inl i) = inl (in_left r more found i)
+      part-ended r h (inr u) = inr u
+
+      old-ended : (r : Found S) (h : Here S F) → In r found ⊎ IsUnderway [] h → In r (more ++ found) ⊎ IsUnderway [] h
+      old-ended r h (inl i) = inl (in_right r more found i)
+      old-ended r h (inr u) = inr u
+
+      ended : (h : Here S F) (t : S) → steps.onward h.run ≡ Ends t → In h new ⊎ In h made → In (Run h.faults t) (more ++ found) ⊎ IsUnderway [] h
+      ended h t w (inl i) = part-ended (Run h.faults t) h (e.ended h t i w)
+      ended h t w (inr i) = old-ended (Run h.faults t) h (d.ended h t i w)
 
       befalls : (h x : Here S F) → DepartsByFault steps budget x h → void x.run ≡ false → In h new ⊎ In h made → Will All x ⊎ IsLeft steps budget others x
       befalls h x j v (inl i) = inl (all x (e.befalls h x i j v))

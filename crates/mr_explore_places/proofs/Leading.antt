@@ -403,3 +403,40 @@ module _ {S F : Type 0} (steps : Steps S F) (budget : ℕ) where
       alike_through (laid steps budget (suc n) h ls) (level.Faults (record { place = h; faults = steps.faults h.run; beyond = n }) ∷ with_late coming n ls) (with_faults trying n (with_late coming n ls))
       (alike_behind (level.Faults (record { place = h; faults = steps.faults h.run; beyond = n })) (level.Late (record { place = h; late = h.ripe; beyond = n }) ∷ ls) (with_late coming n ls) (late_as n h ls coming l))
       (faults_as n h (with_late coming n ls) trying f)
+
+  -- ---- what was put off comes here at once
+
+  -- so many, from the first on, are left to come
+  abbrev pub Owing : Here S F → ℕ → List (Level S F) → List (Level S F)
+  Owing h n ls = level.Late (record { place = h; late = n; beyond = 0 }) ∷ ls
+
+  begun_before : (child : Option (Here S F)) (m : Level S F) (ls : List (Level S F)) → Alike (with_begun child (m ∷ ls)) (m ∷ with_begun child ls)
+  begun_before None m ls = both_ways (m ∷ ls) (m ∷ ls) (λ x i. i) (λ x i. i) (λ x i. i)
+  begun_before (Some h) m ls = both_ways (level.Begin h ∷ m ∷ ls) (m ∷ level.Begin h ∷ ls) to from trails where
+    to : (x : Here S F) → Left (level.Begin h ∷ m ∷ ls) x → Left (m ∷ level.Begin h ∷ ls) x
+    to x (inl i) = inr (inl i)
+    to x (inr (inl i)) = inl i
+    to x (inr (inr i)) = inr (inr i)
+
+    from : (x : Here S F) → Left (m ∷ level.Begin h ∷ ls) x → Left (level.Begin h ∷ m ∷ ls) x
+    from x (inl i) = inr (inl i)
+    from x (inr (inl i)) = inl i
+    from x (inr (inr i)) = inr (inr i)
+
+    trails : (x : Here S F) → OnTrails (m ∷ level.Begin h ∷ ls) x → OnTrails (level.Begin h ∷ m ∷ ls) x
+    trails x (inl i) = inr (inl i)
+    trails x (inr (inl i)) = absurd i
+    trails x (inr (inr i)) = inr (inr i)
+
+  pub owing_first : (h : Here S F) (n : ℕ) (ls : List (Level S F)) → n ≡ h.ripe → Alike (Owing h h.ripe ls) (Owing h n ls)
+  owing_first h n ls e = subst (λ (z : ℕ). Alike (Owing h h.ripe ls) (Owing h z ls)) (sym e) (both_ways (Owing h h.ripe ls) (Owing h h.ripe ls) (λ x i. i) (λ x i. i) (λ x i. i))
+
+  pub owing_next : (h : Here S F) (at n : ℕ) (old ls new : List (Level S F)) (child : Option (Here S F)) → n ≡ suc at → child ≡ if_owed steps h at (slice_get h.owed at) → new ≡ with_begun child ls → Alike old (Owing h n ls) → Alike old (Owing h at new)
+  owing_next h at n old ls new child last is pushed e =
+      let came = came_one (record { place = h; late = n; beyond = 0 }) at ls child last is in
+      let before = begun_before child (level.Late (record { place = h; late = at; beyond = 0 })) ls in
+      let next = alike_through (Owing h n ls) (with_begun child (Owing h at ls)) (Owing h at (with_begun child ls)) came before in
+      subst (λ (z : List (Level S F)). Alike old (Owing h at z)) (sym pushed) (alike_through old (Owing h n ls) (Owing h at (with_begun child ls)) e next)
+
+  pub owing_none : (h : Here S F) (n : ℕ) (old ls : List (Level S F)) → n ≡ 0 → Alike old (Owing h n ls) → Alike old ls
+  owing_none h n old ls none e = alike_through old (Owing h n ls) ls e (came_all (record { place = h; late = n; beyond = 0 }) ls none refl)

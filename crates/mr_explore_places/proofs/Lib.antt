@@ -9,3 +9,4 @@ mod Treading
 pub mod Begun
 pub mod Joining
 pub mod Answering
+pub mod Fronts

@@ -1,5 +1,5 @@
 -- What stands in lists.
-use Rattle.std.proofs.Common.{◌≡◌, ◌⊎◌, inl, inr, ℕ, zero, suc, List, [], ◌∷◌, ◌++◌, slice_get, Some}
+use Rattle.std.proofs.Common.{◌≡◌, ◌⊎◌, inl, inr, ℕ, zero, suc, List, [], ◌∷◌, ◌++◌, length, ◌<◌, get_or, sym, slice_get, Some, arith}
 use Rattle.mr_explore_search.specs.Laws.{In}
 
 pub in_left : {A : Type 0} (x : A) (xs ys : List A) → In x xs → In x (xs ++ ys)
@@ -26,3 +26,8 @@ pub got_in : {A : Type 0} (xs : List A) (n : ℕ) (x : A) → slice_get xs n ≡
 got_in [] n x e = cc
 got_in (y ∷ ys) zero x e = inl (same_some y x e)
 got_in (y ∷ ys) (suc n) x e = inr (got_in ys n x e)
+
+pub in_at : {A : Type 0} (xs : List A) (i : ℕ) (x : A) → i < length xs → x ≡ get_or xs i x → In x xs
+in_at [] i x l e = absurd (omega (arith, l))
+in_at (y ∷ ys) zero x l e = inl (sym e)
+in_at (y ∷ ys) (suc i) x l e = inr (in_at ys i x (omega (arith, l)) e)

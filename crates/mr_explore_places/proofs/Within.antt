@@ -9,6 +9,12 @@ use Rattle.mr_explore_places.proofs.Lists.{got_in}
 pub same_goes : {S : Type 0} (o : Onward S) (t u : S) → o ≡ Goes t → o ≡ Goes u → t ≡ u
 same_goes o t u g e = cc
 
+pub same_ends : {S : Type 0} (o : Onward S) (t u : S) → o ≡ Ends t → o ≡ Ends u → t ≡ u
+same_ends o t u g e = cc
+
+pub goes_or_ends : {S : Type 0} (o : Onward S) (t u : S) → o ≡ Goes t → o ≡ Ends u → ⊥
+goes_or_ends o t u g e = cc
+
 -- the run of a place made a step
 pub stepped : {S F : Type 0} (h : Here S F) (n : ℕ) (t : S) → n ≡ length h.owed → record { faults = h.faults; ripe = n; owed = h.owed; run = t } ≡ behind_step h t
 stepped {S} {F} h n t e = let at : ℕ → Here S F = λ m. record { faults = h.faults; ripe = m; owed = h.owed; run = t } in ap at e

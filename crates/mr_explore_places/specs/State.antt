@@ -7,6 +7,7 @@ use Rattle.mr_explore_search.specs.declared.ended.Ended.{Ended}
 use Rattle.mr_explore_search.specs.declared.fault.WalkFault.{WalkFault}
 use Rattle.mr_explore_alike.specs.Leaving.{Here}
 use Rattle.mr_explore_places.specs.Places.{IsOnItsWay, beginning}
+use Rattle.mr_explore_places.specs.Fronts.{Underway}
 use Rattle.mr_explore_places.specs.Levels.{LeadsTo}
 use Rattle.mr_explore_places.specs.Going.{Stops}
 use Rattle.mr_explore_places.specs.Searching.{AreKnownOf, HasDone, HasSearched}
@@ -17,10 +18,11 @@ use Rattle.mr_explore_places.specs.declared.part.Next.{Next}
 use Rattle.mr_explore_places.specs.declared.part.Next.TheVariants as next
 use Rattle.mr_explore_places.specs.declared.stores.Stores.{Stores}
 
--- how far it goes, the places that it keeps, what is left to it, and why it has stopped, if it has
+-- how far it goes, the places that it keeps, the runs that go on side by side, what is left to it, and why it has stopped, if it has
 pub record State (S F : Type 0) : Type 0 where
   pub bounds : Bounds
   pub kept : Stores S F
+  pub going : List (Underway S F)
   pub left : List (Level S F)
   pub fault : Option WalkFault
 
@@ -44,11 +46,11 @@ IsPart {S} {F} steps bounds first l = (x : Here S F) → LeadsTo steps bounds.fa
 module _ {S F : Type 0} (steps : Steps S F) (rest : S → ℕ) (before : S → S → Bool) (void : S → Bool) (like : S → List F → S → List F → Type 0) (ends : S → S → Type 0) where
   -- A search over these parts of the runs that come of the first one has found these so far, the last one first. Other parts are given away: others search them.
   abbrev pub HasFound : Bounds → (first : S) → (parts given : List (Level S F)) → List (Found S) → State S F → Type 0
-  HasFound bounds first parts given found s = (s.bounds ≡ bounds) × (s.fault ≡ None) × HasSearched steps rest before void like ends bounds.faults bounds.steps first parts s.kept (s.left ++ given) found
+  HasFound bounds first parts given found s = (s.bounds ≡ bounds) × (s.fault ≡ None) × HasSearched steps rest before void like ends bounds.faults bounds.steps first parts s.kept s.going (s.left ++ given) found
 
   -- all that comes of these parts was found, but for what is given away
   abbrev pub IsDone : Bounds → (first : S) → (parts given : List (Level S F)) → List (Found S) → Type 0
-  IsDone bounds first parts given found = (made : List (Here S F)) × (known : List (Here S F)) × HasDone steps rest before void like ends bounds.faults bounds.steps first parts known [] given made found × AreKnownOf steps rest before void like ends bounds.faults bounds.steps parts known
+  IsDone bounds first parts given found = (made : List (Here S F)) × (known : List (Here S F)) × HasDone steps rest before void like ends bounds.faults bounds.steps first parts known [] [] given made found × AreKnownOf steps rest before void like ends bounds.faults bounds.steps parts known
 
   -- One more run was found, and it is one of the definition; or no run, and then all that is needed was made. Where it is told that a limit would be passed, a run of the
   -- definition would pass it. Behind a fault it stays at it.

@@ -1,13 +1,16 @@
 //! Runs begin behind departures: each is followed, and what may depart from it is left to be made.
-ghost use Rattle.std.specs.Prelude.{◌≡◌, Some, Ok, true, ℕ, IfOk, IfErr, OnOk};
+ghost use Rattle.std.specs.Prelude.{◌≡◌, ◌≤◌, List, Some, IsTrue, Ok, true, ℕ, IfOk, IfErr, OnOk};
 ghost use Rattle.mr_explore_search.specs.Steps.{IsNotFull};
 ghost use Rattle.mr_explore_places.specs.Going.{Tells};
+ghost use Rattle.mr_explore_places.specs.Fronts.{Underway};
 ghost use Rattle.mr_explore_places.specs.Levels.{AreFaultsOf, AreLateOf, with_faults, with_late};
 ghost use Rattle.mr_explore_places.specs.Searching.{Turns};
 ghost use Rattle.mr_explore_places.specs.declared.level.Level.TheVariants.{Begin};
 
 use crate::bounds::Bounds;
 use crate::following::{at_end, follow, step_on};
+use crate::front::Front;
+use crate::going::set_out;
 use crate::level::{Coming, Level, Trying};
 use crate::place::{Place, copy_of};
 use crate::run::MarkedRun;
@@ -114,7 +117,7 @@ fn begin_at<R: MarkedRun>(
     bounds: &Bounds,
     place: Place<R, R::Fault>,
 ) -> Result<Option<Ended<R>>, WalkFault>
-    ensures { Turns R.steps R.rest R.before R.void R.like R.ends bounds.now.faults bounds.now.steps (Begin place) stores.old levels.old result stores.new levels.new }
+    ensures { (going : List (Underway R R.Fault)) → Turns R.steps R.rest R.before R.void R.like R.ends bounds.now.faults bounds.now.steps (Begin place) stores.old going levels.old result stores.new going levels.new }
 {
     if !visit(alloc, stores, bounds, &place)? {
         return Ok(None);
@@ -127,19 +130,35 @@ fn begin_at<R: MarkedRun>(
     Ok(trail.ended)
 }
 
+// Whether a run goes on beside others: it may have no more faults, and there is room. A search that keeps no place leaves none out, so none goes on beside others.
+fn is_beside<R: MarkedRun>(
+    stores: &Stores<R, R::Fault>,
+    front: &Front<R, R::Fault>,
+    bounds: &Bounds,
+    place: &Place<R, R::Fault>,
+) -> bool
+    ensures { IsTrue result → bounds.now.faults ≤ place.now.faults }
+{
+    place.faults >= bounds.faults && !stores.rows.is_empty() && !front.is_full()
+}
+
 /// A run begins: it is followed to its end, or to a place for which a kept one stands. A void run is told, and nothing departs from it.
 pub fn begin<R: MarkedRun>(
     alloc: Global,
     stores: &mut Stores<R, R::Fault>,
+    front: &mut Front<R, R::Fault>,
     levels: &mut LinkedList<Level<R, R::Fault>>,
     bounds: &Bounds,
     place: Place<R, R::Fault>,
 ) -> Result<Option<Ended<R>>, WalkFault>
-    ensures { Turns R.steps R.rest R.before R.void R.like R.ends bounds.now.faults bounds.now.steps (Begin place) stores.old levels.old result stores.new levels.new }
+    ensures { Turns R.steps R.rest R.before R.void R.like R.ends bounds.now.faults bounds.now.steps (Begin place) stores.old front.old levels.old result stores.new front.new levels.new }
 {
     if place.run.is_void() {
-        tell(alloc, bounds, place)
-    } else {
-        begin_at(alloc, stores, levels, bounds, place)
+        return tell(alloc, bounds, place);
     }
+    if is_beside(stores, front, bounds, &place) {
+        set_out(alloc, stores, front, levels, bounds, place)?;
+        return Ok(None);
+    }
+    begin_at(alloc, stores, levels, bounds, place)
 }

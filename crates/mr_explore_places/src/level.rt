@@ -1,6 +1,7 @@
 //! Levels of a search: what is left to depart from the places of a run.
-ghost use Rattle.std.specs.Prelude.{◌≡◌, IfOk, IfErr};
+ghost use Rattle.std.specs.Prelude.{◌≡◌, IfOk, IfErr, OnOk};
 ghost use Rattle.mr_explore_search.specs.Steps.{IsNotFull};
+ghost use Rattle.mr_explore_places.specs.Levels.{with_begun};
 
 use crate::place::{Place, copy_of};
 use crate::run::MarkedRun;
@@ -103,4 +104,18 @@ fn copy_of_faults<F: Copy + Drop>(
     let mut copy = LinkedList::new(alloc);
     copy.extend(faults)?;
     Ok(copy)
+}
+
+/// A run begins here next, if there is one.
+pub fn push_begun<R: MarkedRun>(
+    levels: &mut LinkedList<Level<R, R::Fault>>,
+    child: Option<Place<R, R::Fault>>,
+) -> Result<(), WalkFault>
+    ensures pushes { OnOk result (levels.new ≡ with_begun child levels.old) }
+    ensures fault { IfErr result IsNotFull }
+{
+    if let Some(place) = child {
+        levels.push_front(Level::Begin(place))?;
+    }
+    Ok(())
 }

@@ -12,6 +12,7 @@
 //!   mr_explore_alike).
 //! - No contract depends on what is kept: which places are looked up, where they lie, how many there are, and which one goes. So they can all be let go
 //!   (`forget_places`); that their memory is given back is in no clause.
+//! - Nor does one on the order of steps: runs that may have no more faults go on side by side (`Front`), and one of them may stand for another one.
 //! - `Full` is answered only where a run of the definition would pass a limit (`Stops`).
 //! - After a refusal the same refusal is answered, and nothing changes.
 //! - Parts can be given away (`next_apart`), copied (`Part::fork`), and searched by others with places of their own (`of_part`). Where the rest is done, and each part that was given
@@ -34,6 +35,8 @@ mod beginning;
 mod bounds;
 mod departing;
 mod following;
+mod front;
+mod going;
 mod laws;
 mod level;
 mod owed;

@@ -7,6 +7,7 @@ ghost use Rattle.mr_explore_places.specs.Places.{beginning};
 ghost use Rattle.mr_explore_places.specs.State.{Answers, AnswersApart, HasFound, HasStopped, IsPart, fault_of, whole};
 
 use crate::bounds::Bounds;
+use crate::front::Front;
 use crate::level::Level;
 use crate::part::{Next, Part};
 use crate::place::Place;
@@ -25,6 +26,7 @@ use std::marker::Model;
 #[derive(Drop)]
 pub struct Search<R: MarkedRun> {
     levels: LinkedList<Level<R, R::Fault>>,
+    front: Front<R, R::Fault>,
     stores: Stores<R, R::Fault>,
     bounds: Bounds,
     // Why it has stopped, if it has.
@@ -37,20 +39,22 @@ impl<R: MarkedRun> Model for Search<R> {
 
     ghost Value = { State R R.Fault };
 
-    ghost view = { λ s. record { bounds = s.bounds; kept = s.stores; left = s.levels; fault = s.fault } };
+    ghost view = { λ s. record { bounds = s.bounds; kept = s.stores; going = s.front; left = s.levels; fault = s.fault } };
 }
 
 impl<R: MarkedRun> Search<R> {
     // It has these levels before it, and has not stopped.
     fn over(
         levels: LinkedList<Level<R, R::Fault>>,
+        front: Front<R, R::Fault>,
         stores: Stores<R, R::Fault>,
         bounds: Bounds,
     ) -> Search<R>
-        ensures { result ≡ record { bounds = bounds; kept = stores; left = levels; fault = None } }
+        ensures { result ≡ record { bounds = bounds; kept = stores; going = front; left = levels; fault = None } }
     {
         Search {
             levels,
+            front,
             stores,
             bounds,
             fault: None,
@@ -65,7 +69,7 @@ impl<R: MarkedRun> Search<R> {
         let stores = Stores::new(alloc, bounds.rows)?;
         let mut levels = LinkedList::new(alloc);
         levels.push_front(Level::Begin(beginning(alloc, run)))?;
-        Ok(Search::over(levels, stores, bounds))
+        Ok(Search::over(levels, Front::new(alloc), stores, bounds))
     }
 
     /// A search over a part that was taken off another search with the same bounds, with places of its own. It has found none yet. It fails where there is no memory.
@@ -80,7 +84,7 @@ impl<R: MarkedRun> Search<R> {
         let stores = Stores::new(alloc, bounds.rows)?;
         let mut levels = LinkedList::new(alloc);
         levels.push_front(part.into_level())?;
-        Ok(Search::over(levels, stores, bounds))
+        Ok(Search::over(levels, Front::new(alloc), stores, bounds))
     }
 
     /// A search that has nothing before it, and has found nothing. It keeps places in so many rows, whatever its bounds say of them. It fails where there is no memory.
@@ -89,7 +93,7 @@ impl<R: MarkedRun> Search<R> {
     {
         let stores = Stores::new(alloc, rows)?;
         let levels = LinkedList::new(alloc);
-        Ok(Search::over(levels, stores, bounds))
+        Ok(Search::over(levels, Front::new(alloc), stores, bounds))
     }
 
     /// A part that was taken off another search with the same bounds comes before it, besides what is left of others. It keeps its places. It fails where there is no memory, or
@@ -133,7 +137,13 @@ impl<R: MarkedRun> Search<R> {
         if let Some(fault) = self.fault {
             return Err(fault);
         }
-        let result = seek(alloc, &mut self.stores, &mut self.levels, &self.bounds);
+        let result = seek(
+            alloc,
+            &mut self.stores,
+            &mut self.front,
+            &mut self.levels,
+            &self.bounds,
+        );
         self.fault = fault_of(&result);
         result
     }
@@ -149,7 +159,13 @@ impl<R: MarkedRun> Search<R> {
         if let Some(fault) = self.fault {
             return Err(fault);
         }
-        let result = seek_apart(alloc, &mut self.stores, &mut self.levels, &self.bounds);
+        let result = seek_apart(
+            alloc,
+            &mut self.stores,
+            &mut self.front,
+            &mut self.levels,
+            &self.bounds,
+        );
         self.fault = fault_of(&result);
         result
     }

@@ -265,9 +265,22 @@ fn visit_and_keep<R: MarkedRun>(
     Ok(true)
 }
 
-// Whether a place of a run that may have no more faults is looked up. What was put off may depart from each place of a run, so one that has such is looked up at each.
-fn is_sought<R: MarkedRun>(place: &Place<R, R::Fault>) -> bool {
+/// Whether a place of a run that may have no more faults is looked up. What was put off may depart from each place of a run, so one that has such is looked up at each.
+pub fn is_sought<R: MarkedRun>(place: &Place<R, R::Fault>) -> bool {
     !place.owed.is_empty() || place.steps <= FIRST_STEPS || place.steps % STRIDE == 0
+}
+
+/// Whether a kept place that has this mark stands for this one.
+pub fn is_kept_for<R: MarkedRun>(
+    alloc: Global,
+    stores: &Stores<R, R::Fault>,
+    mark: u64,
+    place: &Place<R, R::Fault>,
+) -> Result<bool, WalkFault>
+    ensures stands { IfOk result (λ covered. IsTrue covered → OneStandsFor R.before R.like (IsHeld stores.now) place.now) }
+    ensures fault { IfErr result IsNotFull }
+{
+    covers_in(alloc, &stores.rows, mark, place)
 }
 
 // A place of a run that may have no more faults is looked up, or not. It is not kept: there are many, and few are met again. Whether it has to be made.

@@ -1,7 +1,8 @@
 //! Turns of a search: a run begins, a departure is tried, or a run goes on.
 ghost use Rattle.std.specs.Prelude.{◌≡◌, [], ◌∷◌, ℕ, Some, IfOk, IfErr, OnOk};
 ghost use Rattle.mr_explore_search.specs.Steps.{IsNotFull};
-ghost use Rattle.mr_explore_places.specs.Levels.{LeadAlike, with_begun};
+ghost use Rattle.mr_explore_places.specs.Fronts.{AreSame, Leaves};
+ghost use Rattle.mr_explore_places.specs.Levels.{LeadAlike};
 ghost use Rattle.mr_explore_places.specs.Searching.{Seeks, SeeksApart, Turns};
 ghost use Rattle.mr_explore_places.specs.declared.level.Level.TheVariants.{Faults, Late};
 
@@ -9,13 +10,15 @@ use crate::beginning::begin;
 use crate::bounds::Bounds;
 use crate::departing::{behind_fault, behind_owed};
 use crate::following::goes_on;
-use crate::level::{Coming, Level, Trying};
+use crate::front::{Front, Going};
+use crate::going::advance;
+use crate::level::{Coming, Level, Trying, push_begun};
 use crate::part::{Next, Part};
 use crate::place::Place;
 use crate::run::MarkedRun;
 use crate::stores::Stores;
 use mr_explore_search::{Ended, WalkFault};
-use std::alloc::Global;
+use std::alloc::{AllocError, Global};
 use std::collections::LinkedList;
 
 // So many turns are made at most before a run is found.
@@ -23,20 +26,6 @@ const TURNS: u64 = u64::MAX;
 
 // The last faults of a run are those that it may have behind all others.
 const LAST: u32 = 1;
-
-// A run begins here next, if there is one.
-fn push_begun<R: MarkedRun>(
-    levels: &mut LinkedList<Level<R, R::Fault>>,
-    child: Option<Place<R, R::Fault>>,
-) -> Result<(), WalkFault>
-    ensures pushes { OnOk result (levels.new ≡ with_begun child levels.old) }
-    ensures fault { IfErr result IsNotFull }
-{
-    if let Some(place) = child {
-        levels.push_front(Level::Begin(place))?;
-    }
-    Ok(())
-}
 
 // Where all faults were tried, they are tried at the next place, if there is one.
 fn try_further<R: MarkedRun>(
@@ -136,19 +125,34 @@ fn turn_late<R: MarkedRun>(
     push_begun(levels, child)
 }
 
+// Where all faults of a place were tried, the runs that departed from there and before go on, as far as the run itself.
+fn keep_abreast<R: MarkedRun>(
+    front: &mut Front<R, R::Fault>,
+    level: &Trying<R, R::Fault>,
+) -> Result<(), AllocError>
+    ensures { OnOk result (front.new ≡ front.old) }
+{
+    if level.faults.is_empty() {
+        front.fall_behind()?;
+    }
+    Ok(())
+}
+
 // The level that was next makes a turn.
 fn turn<R: MarkedRun>(
     alloc: Global,
     stores: &mut Stores<R, R::Fault>,
+    front: &mut Front<R, R::Fault>,
     levels: &mut LinkedList<Level<R, R::Fault>>,
     bounds: &Bounds,
     level: Level<R, R::Fault>,
 ) -> Result<Option<Ended<R>>, WalkFault>
-    ensures { Turns R.steps R.rest R.before R.void R.like R.ends bounds.now.faults bounds.now.steps level stores.old levels.old result stores.new levels.new }
+    ensures { Turns R.steps R.rest R.before R.void R.like R.ends bounds.now.faults bounds.now.steps level stores.old front.old levels.old result stores.new front.new levels.new }
 {
     match level {
-        Level::Begin(place) => begin(alloc, stores, levels, bounds, place),
+        Level::Begin(place) => begin(alloc, stores, front, levels, bounds, place),
         Level::Faults(level) => {
+            keep_abreast(front, &level)?;
             turn_faults(alloc, levels, bounds.faults, level)?;
             Ok(None)
         }
@@ -159,30 +163,50 @@ fn turn<R: MarkedRun>(
     }
 }
 
-/// Turns are made until a run is found, or nothing is left.
-pub fn seek<R: MarkedRun>(
-    alloc: Global,
-    stores: &mut Stores<R, R::Fault>,
-    levels: &mut LinkedList<Level<R, R::Fault>>,
+// The run that makes its step before the level that is next makes a turn, if there is one. Runs that depart come first, and all that departed from one run are done before another
+// level is.
+fn next_going<R: MarkedRun>(
+    front: &mut Front<R, R::Fault>,
+    levels: &LinkedList<Level<R, R::Fault>>,
     bounds: &Bounds,
-) -> Result<Option<Ended<R>>, WalkFault>
-    ensures { Seeks R.steps R.rest R.before R.void R.like R.ends bounds.now.faults bounds.now.steps stores.old levels.old result stores.new levels.new }
+) -> Result<Option<Going<R, R::Fault>>, AllocError>
+    ensures leaves { IfOk result (λ going. Leaves front.old going front.new) }
+    ensures last { levels.now ≡ [] → result ≡ Ok None → front.new ≡ [] }
 {
-    for _ in 0..TURNS {
-        match levels.pop_front() {
-            Some(level) => {
-                if let Some(ended) = turn(alloc, stores, levels, bounds, level)? {
-                    return Ok(Some(ended));
-                }
-            }
-            None => return Ok(None),
-        }
+    match levels.front() {
+        Some(level) => going_before(front, level, bounds),
+        None => front.pop(),
     }
-    Err(WalkFault::Mismatch)
 }
 
-// Whether a level is searched apart: it has the last faults of a run.
-fn is_part<R: MarkedRun>(bounds: &Bounds, level: &Level<R, R::Fault>) -> bool {
+// The same, where this level is next.
+fn going_before<R: MarkedRun>(
+    front: &mut Front<R, R::Fault>,
+    level: &Level<R, R::Fault>,
+    bounds: &Bounds,
+) -> Result<Option<Going<R, R::Fault>>, AllocError>
+    ensures leaves { IfOk result (λ going. Leaves front.old going front.new) }
+{
+    if sets_out(bounds, level) {
+        return Ok(None);
+    }
+    if has_last(bounds, level) {
+        return Ok(front.pop_behind());
+    }
+    front.pop()
+}
+
+// Whether a run begins there that may have no more faults.
+fn sets_out<R: MarkedRun>(bounds: &Bounds, level: &Level<R, R::Fault>) -> bool {
+    match level {
+        Level::Begin(place) => place.faults >= bounds.faults,
+        Level::Faults(_) => false,
+        Level::Late(_) => false,
+    }
+}
+
+// Whether a level has the last faults of a run.
+fn has_last<R: MarkedRun>(bounds: &Bounds, level: &Level<R, R::Fault>) -> bool {
     match level {
         Level::Begin(_) => false,
         Level::Faults(level) => bounds.faults.saturating_sub(level.place.faults) == LAST,
@@ -190,26 +214,62 @@ fn is_part<R: MarkedRun>(bounds: &Bounds, level: &Level<R, R::Fault>) -> bool {
     }
 }
 
+/// Turns are made until a run is found, or nothing is left.
+pub fn seek<R: MarkedRun>(
+    alloc: Global,
+    stores: &mut Stores<R, R::Fault>,
+    front: &mut Front<R, R::Fault>,
+    levels: &mut LinkedList<Level<R, R::Fault>>,
+    bounds: &Bounds,
+) -> Result<Option<Ended<R>>, WalkFault>
+    ensures { Seeks R.steps R.rest R.before R.void R.like R.ends bounds.now.faults bounds.now.steps stores.old front.old levels.old result stores.new front.new levels.new }
+{
+    for _ in 0..TURNS {
+        if let Some(going) = next_going(front, levels, bounds)? {
+            if let Some(ended) = advance(alloc, stores, front, levels, going)? {
+                return Ok(Some(ended));
+            }
+        } else {
+            match levels.pop_front() {
+                Some(level) => {
+                    if let Some(ended) = turn(alloc, stores, front, levels, bounds, level)? {
+                        return Ok(Some(ended));
+                    }
+                }
+                None => return Ok(None),
+            }
+        }
+    }
+    Err(WalkFault::Mismatch)
+}
+
 /// Turns are made until a run is found, or a part comes next, or nothing is left.
 pub fn seek_apart<R: MarkedRun>(
     alloc: Global,
     stores: &mut Stores<R, R::Fault>,
+    front: &mut Front<R, R::Fault>,
     levels: &mut LinkedList<Level<R, R::Fault>>,
     bounds: &Bounds,
 ) -> Result<Option<Next<R, R::Fault>>, WalkFault>
-    ensures { SeeksApart R.steps R.rest R.before R.void R.like R.ends bounds.now.faults bounds.now.steps stores.old levels.old result stores.new levels.new }
+    ensures { SeeksApart R.steps R.rest R.before R.void R.like R.ends bounds.now.faults bounds.now.steps stores.old front.old levels.old result stores.new front.new levels.new }
 {
     for _ in 0..TURNS {
-        match levels.pop_front() {
-            Some(level) => {
-                if is_part(bounds, &level) {
-                    return Ok(Some(Next::Part(Part::of(level))));
-                }
-                if let Some(ended) = turn(alloc, stores, levels, bounds, level)? {
-                    return Ok(Some(Next::Run(ended)));
-                }
+        if let Some(going) = next_going(front, levels, bounds)? {
+            if let Some(ended) = advance(alloc, stores, front, levels, going)? {
+                return Ok(Some(Next::Run(ended)));
             }
-            None => return Ok(None),
+        } else {
+            match levels.pop_front() {
+                Some(level) => {
+                    if has_last(bounds, &level) {
+                        return Ok(Some(Next::Part(Part::of(level))));
+                    }
+                    if let Some(ended) = turn(alloc, stores, front, levels, bounds, level)? {
+                        return Ok(Some(Next::Run(ended)));
+                    }
+                }
+                None => return Ok(None),
+            }
         }
     }
     Err(WalkFault::Mismatch)

@@ -65,6 +65,7 @@ module _ {S F : Type 0} (steps : Steps S F) (rest : S → ℕ) (before : S → S
       [],
       record {
         on_way = λ x i. absurd i;
+        go_on = λ g i. absurd i;
         runs = λ r i. absurd i;
         trodden = λ x i. absurd i;
         began = λ x i v. absurd i;

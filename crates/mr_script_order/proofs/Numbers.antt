@@ -1,5 +1,6 @@
 -- The numbers of events: they tell which event it is, and they are compared in two parts.
 use Rattle.std.proofs.Common.{◌≡◌, ℕ, zero, suc, ◌==◌, List, [], ◌∷◌, drop, length, if◌then◌else◌, refl, sym, ap, ◌∙◌}
+use Rattle.std.proofs.lemmas.Cmp.{lists_total, nat_cmp_total, tied_itself}
 use Rattle.std.specs.Cmp.Lexicographic.{slice_cmp}
 use Rattle.std.specs.Ordering.{nat_cmp, ordering_then}
 use Rattle.std.specs.declared.cmp.Ordering.{Ordering}
@@ -102,3 +103,7 @@ by_words (NodeRestart n) (NodeRestart m) = before_equal _
 by_words (NodeRestart n) _ = refl
 by_words (Expire g n) (Expire h m) = before_equal _
 by_words (Expire g n) _ = refl
+
+-- of two that are equal neither comes first
+pub equal_are_level : (a b : Event) → a ≡ b → Equal ≡ slice_cmp nat_cmp (numbers a) (numbers b)
+equal_are_level a b same = sym (tied_itself (lists_total nat_cmp_total) (numbers a)) ∙ ap (λ e. slice_cmp nat_cmp (numbers a) (numbers e)) same

@@ -2,8 +2,8 @@
 
 use mr_explore::{Exploration, Explored, Table, Unwatched, Winners, note};
 use mr_explore_compared::{Compared, is_like, mark};
-use mr_explore_places::{Bounds, Search};
-use mr_explore_search::Ended;
+use mr_explore_places::{Bounds, MarkedRun, Search};
+use mr_explore_search::{Ended, Run};
 use std::alloc::Global;
 use std::process::Abort;
 
@@ -88,6 +88,22 @@ fn others_are_not(rt: HostRuntime) {
 // A job of a map and a reduce.
 const SMALL: &[u8] =
     b"{\"id\":\"job_200707121733_0003\",\"job\":\"wordcount\",\"reduces\":1,\"splits\":[\"a b a\"]}\n";
+
+// A mark is read off a run as it goes on: it is the one that is read off all of it.
+#[test]
+fn marks_are_those_of_whole_runs(rt: HostRuntime) {
+    let (rt, alloc) = (&rt, rt.alloc());
+    let mut run = Compared::new(run_of(rt, alloc, SMALL, b""));
+    for _ in 0..100 {
+        let other = run.fork(alloc).expect(rt, "no fork");
+        let whole = mark(run.run(), &[]).expect(rt, "no mark");
+        assert!(rt; run.mark(alloc, &[]).expect(rt, "no mark") == whole);
+        assert!(rt; other.mark(alloc, &[]).expect(rt, "no mark") == whole);
+        if !run.go_on(alloc).expect(rt, "no step") {
+            return;
+        }
+    }
+}
 
 // How many runs come of it by a fault at most, and how many ends.
 fn all_of(rt: &impl Abort, alloc: Global) -> (u64, usize) {

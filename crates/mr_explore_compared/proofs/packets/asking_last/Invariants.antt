@@ -1,6 +1,7 @@
-use Rattle.mr_explore_compared.proofs.Asked.{Begins}
+use Rattle.std.proofs.Common.{◌-◌, length}
+use Rattle.mr_explore_compared.proofs.Asked.{AskFrom}
 use Rattle.mr_explore_compared.proofs.packets.asking_last.Given as goal
 
--- of those so far as many lie last as there are from there on
-abbrev pub invariant-loop-place : goal.invariant-loop-place
-invariant-loop-place l = Begins l.bag l.place l.from
+-- so many ask, from the last one on
+abbrev pub invariant-loop-last : goal.invariant-loop-last
+invariant-loop-last l = AskFrom l.bag (length l.bag - l.last)
