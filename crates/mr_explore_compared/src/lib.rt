@@ -8,7 +8,8 @@
 //! - `Compared` is a run for a search that leaves runs out (`MarkedRun` of mr_explore_places): it goes on as an `Explored`
 //!   does, its script is before another one by `sooner` of mr_script_order, and what it knows of others is `is_like`.
 //!
-//! Only tested: that runs which are alike, and to which the same came, have one mark, and that `is_like` finds them so.
+//! Only tested: that runs which are alike, and to which the same came, mostly have one mark, and that `is_like` finds them so. Two that wrote the same records by other store calls may
+//! have two marks: then both are made.
 #![tactic(auto)]
 
 mod compared;
