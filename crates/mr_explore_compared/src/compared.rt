@@ -13,7 +13,7 @@ use std::marker::Model;
 #[derive(Drop)]
 pub struct Compared {
     run: Explored,
-    // For its mark. No contract speaks of it.
+    // For its mark: what its events tell up to its last fault. No contract speaks of it.
     digest: Digest,
 }
 
@@ -51,7 +51,7 @@ impl Compared {
         &self.run
     }
 
-    // What its events tell, as far as they were looked at.
+    // What its events tell, up to its last fault.
     pub(crate) fn digest(&self) -> Digest {
         self.digest
     }
@@ -80,9 +80,7 @@ impl Run for Compared {
     }
 
     fn go_on(&mut self, alloc: Global) -> Result<bool, WalkFault> {
-        let went = self.run.go_on(alloc);
-        self.look();
-        went
+        self.run.go_on(alloc)
     }
 
     fn faults(&self, alloc: Global) -> Result<LinkedList<Fault>, WalkFault> {

@@ -1,4 +1,4 @@
-//! What a mark tells of a run's events. It is read off each event once.
+//! What a mark tells of a run's events. It is kept of those up to the last fault.
 
 use crate::marking::of_packet;
 use mr_packet::Envelope;

@@ -1,5 +1,5 @@
 -- Runs begin, and turns are made.
-use Rattle.std.proofs.Common.{◌≡◌, ◌-◌, inl, ℕ, suc, Bool, true, false, List, [], ◌∷◌, ◌++◌, Option, Some, None, Result, Ok, Err, IsErrAnd, refl, sym, ◌∙◌, ap, subst, arith}
+use Rattle.std.proofs.Common.{◌≡◌, ◌-◌, inl, inr, ℕ, suc, Bool, true, false, List, [], ◌∷◌, ◌++◌, Option, Some, None, Result, Ok, Err, IsErrAnd, refl, sym, ◌∙◌, ap, subst, arith}
 use Rattle.std.proofs.lemmas.Result.{err_from_is_err_and}
 use Rattle.mr_explore_search.specs.Steps.{IsNotFull, Steps}
 use Rattle.mr_explore_search.specs.Runs.{Found, Run}
@@ -7,11 +7,12 @@ use Rattle.mr_explore_search.specs.Laws.{IsOneBy}
 use Rattle.mr_explore_search.specs.declared.ended.Ended.{Ended}
 use Rattle.mr_explore_search.specs.declared.fault.WalkFault.{WalkFault}
 use Rattle.mr_explore_search.specs.declared.fault.WalkFault.TheVariants as fault
-use Rattle.mr_explore_alike.specs.Leaving.{Here}
+use Rattle.mr_explore_alike.specs.Leaving.{Here, IsCovered}
 use Rattle.mr_explore_places.specs.Places.{IsOnItsWay}
+use Rattle.mr_explore_places.specs.Covering.{OneStandsFor}
 use Rattle.mr_explore_places.specs.Keeping.{Visits}
 use Rattle.mr_explore_places.specs.Fronts.{AreSame, Underway}
-use Rattle.mr_explore_places.specs.Levels.{AreFaultsOf, AreLateOf, LeadAlike, laid, with_faults, with_late}
+use Rattle.mr_explore_places.specs.Levels.{AreFaultsOf, AreLateOf, IsOnTrails, LeadAlike, laid, with_faults, with_late}
 use Rattle.mr_explore_places.specs.Going.{Stops, Tells}
 use Rattle.mr_explore_places.specs.Searching.{Advances, FollowedTo, Follows, HasDone, HasSearched, Seeks, SeeksApart, Turns, with_ended}
 use Rattle.mr_explore_places.specs.declared.following.Trail.{Trail}
@@ -23,7 +24,7 @@ use Rattle.mr_explore_places.specs.declared.part.Next.{Next}
 use Rattle.mr_explore_places.specs.declared.part.Next.TheVariants as next
 use Rattle.mr_explore_places.specs.declared.stores.Stores.{Stores}
 use Rattle.mr_explore_places.proofs.Ways.{is_one, would_pass}
-use Rattle.mr_explore_places.proofs.Leading.{alike_given, given_away, laid_as}
+use Rattle.mr_explore_places.proofs.Leading.{alike_given, given_away, laid_as, trails_here}
 use Rattle.mr_explore_places.proofs.Doing.{found_more, in_other_order, led_alike, passed_over, stood_for, taken_up}
 use Rattle.mr_explore_places.proofs.Trails.{is_covered, made_one, made_still}
 
@@ -71,6 +72,14 @@ module _ {S F : Type 0} (steps : Steps S F) (rest : S → ℕ) (before : S → S
         made_still steps rest before void like ends old-kept kept (s.0 ++ s.1) p s.3 v,
         s.4,
       )
+
+  -- one along which faults are left to be tried stands for it
+  pub begin_left : (p : Here S F) (kept : Stores S F) (going : List (Underway S F)) (old : List (Level S F)) → OneStandsFor before like (IsOnTrails steps budget old) p → Turn (level.Begin p) kept going old (Ok None) kept going old
+  begin_left p kept going old o first parts given found s =
+      let d = taken_up steps rest before void like ends budget most first parts s.1 p going (old ++ given) s.0 found s.2 in
+      let there = s.2.trodden o.0 (inr (trails_here steps budget old given o.0 o.1)) in
+      let covered : IsCovered steps rest before void like ends (s.0 ++ s.1) p.faults p.ripe p.owed p.run = record { by = o.0; made_by = there; alike = o.2.0; ripe_there = o.2.1; earlier = o.2.2 } in
+      (s.0, s.1, stood_for steps rest before void like ends budget most first parts s.1 p going (old ++ given) s.0 found covered d, s.3, s.4)
 
   -- a run that begins is followed
   started : (p : Here S F) (old-kept mid kept : Stores S F) (going : List (Underway S F)) (old : List (Level S F)) (r : Result (Trail S) WalkFault) → Visits before like old-kept p true mid → Follows steps rest before void like ends budget most p mid r kept

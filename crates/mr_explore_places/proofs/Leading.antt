@@ -1,5 +1,5 @@
 -- Where levels lead, and that turns change nothing of it.
-use Rattle.std.proofs.Common.{◌≡◌, ◌≤◌, ◌<◌, ◌⊎◌, inl, inr, ℕ, zero, suc, true, false, List, [], ◌∷◌, ◌++◌, slice_get, Option, Some, None, refl, sym, ◌∙◌, ap, subst, arith}
+use Rattle.std.proofs.Common.{◌≡◌, ◌≤◌, ◌<◌, ◌⊎◌, inl, inr, ℕ, zero, suc, true, false, List, [], ◌∷◌, ◌++◌, length, get_or, slice_get, Option, Some, None, refl, sym, ◌∙◌, ap, subst, arith}
 use Rattle.mr_explore_search.specs.Steps.{Goes, Steps}
 use Rattle.mr_explore_search.specs.Laws.{In}
 use Rattle.mr_explore_alike.specs.Leaving.{Here}
@@ -64,6 +64,11 @@ module _ {S F : Type 0} (steps : Steps S F) (budget : ℕ) where
     by : OnTrails ls x ⊎ OnTrails given x → OnTrails (l ∷ ls) x ⊎ OnTrails given x
     by (inl j) = inl (inr j)
     by (inr j) = inr j
+
+  -- the next one's trail
+  pub trail_of_next : (ls : List (Level S F)) (l : Level S F) (x : Here S F) → 0 < length ls → l ≡ get_or ls 0 l → IsOnTrail steps budget l x → OnTrails ls x
+  trail_of_next [] l x few e i = absurd (omega (arith, few))
+  trail_of_next (m ∷ ls) l x few e i = inl (subst (λ (z : Level S F). IsOnTrail steps budget z x) e i)
 
   both_ways : (old new : List (Level S F)) → ((x : Here S F) → Left old x → Left new x) → ((x : Here S F) → Left new x → Left old x) → ((x : Here S F) → OnTrails new x → OnTrails old x) → Alike old new
   both_ways old new f g t = record { leads = λ x. (f x, g x); trails = t }

@@ -3,7 +3,8 @@ ghost use Rattle.std.specs.Prelude.{◌≡◌, ◌≤◌, List, Some, IsTrue, Ok
 ghost use Rattle.mr_explore_search.specs.Steps.{IsNotFull};
 ghost use Rattle.mr_explore_places.specs.Going.{Tells};
 ghost use Rattle.mr_explore_places.specs.Fronts.{Underway};
-ghost use Rattle.mr_explore_places.specs.Levels.{AreFaultsOf, AreLateOf, with_faults, with_late};
+ghost use Rattle.mr_explore_places.specs.Covering.{OneStandsFor};
+ghost use Rattle.mr_explore_places.specs.Levels.{AreFaultsOf, AreLateOf, IsOnTrail, IsOnTrails, with_faults, with_late};
 ghost use Rattle.mr_explore_places.specs.Searching.{Turns};
 ghost use Rattle.mr_explore_places.specs.declared.level.Level.TheVariants.{Begin};
 
@@ -12,7 +13,7 @@ use crate::following::{at_end, follow, step_on};
 use crate::front::Front;
 use crate::going::set_out;
 use crate::level::{Coming, Level, Trying};
-use crate::place::{Place, copy_of};
+use crate::place::{Place, copy_of, stands_for};
 use crate::run::MarkedRun;
 use crate::stores::{Stores, visit};
 use mr_explore_search::{Ended, WalkFault};
@@ -142,7 +143,39 @@ fn is_beside<R: MarkedRun>(
     place.faults >= bounds.faults && !stores.rows.is_empty() && !front.is_full()
 }
 
-/// A run begins: it is followed to its end, or to a place for which a kept one stands. A void run is told, and nothing departs from it.
+// Whether a place along which faults are tried stands for it. The one where the next fault is tried is looked at: a packet that comes once more is mostly ignored.
+fn is_left<R: MarkedRun>(
+    alloc: Global,
+    levels: &LinkedList<Level<R, R::Fault>>,
+    place: &Place<R, R::Fault>,
+) -> Result<bool, WalkFault>
+    ensures stands { IfOk result (λ left. IsTrue left → (budget : ℕ) → OneStandsFor R.before R.like (IsOnTrails R.steps budget levels.now) place.now) }
+    ensures fault { IfErr result IsNotFull }
+{
+    match levels.front() {
+        Some(level) => is_left_at(alloc, level, place),
+        None => Ok(false),
+    }
+}
+
+// Whether the place of this level, where faults are tried, stands for it.
+fn is_left_at<R: MarkedRun>(
+    alloc: Global,
+    level: &Level<R, R::Fault>,
+    place: &Place<R, R::Fault>,
+) -> Result<bool, WalkFault>
+    ensures stands { IfOk result (λ left. IsTrue left → (budget : ℕ) → OneStandsFor R.before R.like (IsOnTrail R.steps budget level.now) place.now) }
+    ensures fault { IfErr result IsNotFull }
+{
+    match level {
+        Level::Begin(_) => Ok(false),
+        Level::Faults(level) => stands_for(alloc, &level.place, place),
+        Level::Late(_) => Ok(false),
+    }
+}
+
+/// A run begins: it is followed to its end, or to a place for which a kept one stands, unless one along which faults are tried stands for the one where it begins. A void run is told,
+/// and nothing departs from it.
 pub fn begin<R: MarkedRun>(
     alloc: Global,
     stores: &mut Stores<R, R::Fault>,
@@ -155,6 +188,9 @@ pub fn begin<R: MarkedRun>(
 {
     if place.run.is_void() {
         return tell(alloc, bounds, place);
+    }
+    if is_left(alloc, levels, &place)? {
+        return Ok(None);
     }
     if is_beside(stores, front, bounds, &place) {
         set_out(alloc, stores, front, levels, bounds, place)?;

@@ -22,11 +22,8 @@ const FEW: u32 = 1;
 const SHARE: usize = 5;
 
 // A run that may have no more faults is looked up behind its last departure and at so many steps from there on: there it mostly meets the run that it departed from, which goes
-// on as if nothing had happened.
+// on as if nothing had happened. Further on it seldom meets one, and a look costs as much as some steps.
 const FIRST_STEPS: u64 = 1;
-
-// Further on it is looked up at each step of so many: a look costs as much as some steps.
-const STRIDE: u64 = 6;
 
 /// A place that is kept, and its mark.
 #[derive(Drop)]
@@ -267,7 +264,7 @@ fn visit_and_keep<R: MarkedRun>(
 
 /// Whether a place of a run that may have no more faults is looked up. What was put off may depart from each place of a run, so one that has such is looked up at each.
 pub fn is_sought<R: MarkedRun>(place: &Place<R, R::Fault>) -> bool {
-    !place.owed.is_empty() || place.steps <= FIRST_STEPS || place.steps % STRIDE == 0
+    !place.owed.is_empty() || place.steps <= FIRST_STEPS
 }
 
 /// Whether a kept place that has this mark stands for this one.
