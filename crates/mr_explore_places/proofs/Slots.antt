@@ -11,9 +11,9 @@ none_more [] r e f h (inr i) = i
 none_more (x ∷ rs) r e f h (inl i) = f h (inl i)
 none_more (x ∷ rs) r e f h (inr i) = none_more rs r e (λ y j. f y (inr j)) h i
 
-pub in_row_at : {S F : Type 0} (ks : List (Kept S F)) (i : ℕ) (k : Kept S F) → i < length ks → k ≡ get_or ks i k → IsInRow ks k.place
+pub in_row_at : {S F : Type 0} (ks : List (Kept S F)) (i : ℕ) (k : Kept S F) → i < length ks → k ≡ get_or ks i k → IsInRow ks k.place.value
 in_row_at [] i k l e = absurd (omega (arith, l))
-in_row_at {S} {F} (x ∷ ks) zero k l e = inl (ap (λ (z : Kept S F). z.place) (sym e))
+in_row_at {S} {F} (x ∷ ks) zero k l e = inl (ap (λ (z : Kept S F). z.place.value) (sym e))
 in_row_at (x ∷ ks) (suc i) k l e = inr (in_row_at ks i k (omega (arith, l)) e)
 
 pub kept_or : {S F : Type 0} (rs : List (Row S F)) (i : ℕ) (r : Row S F) (h : Here S F) → i < length rs → r ≡ get_or rs i r → IsInRow r.kept.items h → IsKept rs h

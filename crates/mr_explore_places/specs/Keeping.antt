@@ -13,7 +13,7 @@ use Rattle.mr_explore_places.specs.declared.stores.Stores.{Stores}
 -- the place is kept in this row
 abbrev pub IsInRow : {S F : Type 0} → List (Kept S F) → Here S F → Type 0
 IsInRow [] h = ⊥
-IsInRow (k ∷ ks) h = (k.place ≡ h) ⊎ IsInRow ks h
+IsInRow (k ∷ ks) h = (k.place.value ≡ h) ⊎ IsInRow ks h
 
 -- in one of these rows
 abbrev pub IsKept : {S F : Type 0} → List (Row S F) → Here S F → Type 0

@@ -25,11 +25,11 @@ const SHARE: usize = 5;
 // on as if nothing had happened. Further on it seldom meets one, and a look costs as much as some steps.
 const FIRST_STEPS: u64 = 1;
 
-/// A place that is kept, and its mark.
+/// A place that is kept, and its mark. The place lies apart, so that the marks of a row lie side by side.
 #[derive(Drop)]
 pub struct Kept<R, F> {
     pub mark: u64,
-    pub place: Place<R, F>,
+    pub place: Box<Place<R, F>>,
 }
 
 /// A row of places, the newest one first.
@@ -83,7 +83,7 @@ fn is_for<R: MarkedRun>(
     mark: u64,
     place: &Place<R, R::Fault>,
 ) -> Result<bool, WalkFault>
-    ensures stands { IfOk result (λ stands. IsTrue stands → StandsFor R.before R.like kept.now.place place.now) }
+    ensures stands { IfOk result (λ stands. IsTrue stands → StandsFor R.before R.like kept.now.place.value place.now) }
     ensures fault { IfErr result IsNotFull }
 {
     if kept.mark != mark {
@@ -132,7 +132,7 @@ fn keep<R: MarkedRun>(
     kept: &mut Vec<Kept<R, R::Fault>>,
     new: Kept<R, R::Fault>,
 ) -> Result<(), AllocError>
-    ensures { OnOk result ((h : Here R R.Fault) → IsInRow kept.new.items h → (new.place ≡ h) ⊎ IsInRow kept.old.items h) }
+    ensures { OnOk result ((h : Here R R.Fault) → IsInRow kept.new.items h → (new.place.value ≡ h) ⊎ IsInRow kept.old.items h) }
 {
     kept.truncate(ROW_ROOM - 1);
     kept.insert(0, new)?;
@@ -146,7 +146,7 @@ fn keep_at<R: MarkedRun>(
     new: Kept<R, R::Fault>,
 ) -> Result<(), AllocError>
     requires { at < vec_len rows.old }
-    ensures { OnOk result ((h : Here R R.Fault) → IsKept rows.new.items h → (new.place ≡ h) ⊎ IsKept rows.old.items h) }
+    ensures { OnOk result ((h : Here R R.Fault) → IsKept rows.new.items h → (new.place.value ≡ h) ⊎ IsKept rows.old.items h) }
 {
     let row = &mut rows[at];
     keep(&mut row.kept, new)
@@ -224,7 +224,7 @@ fn keep_copy<R: MarkedRun>(
     ensures keeps { OnOk result ((h : Here R R.Fault) → IsKept rows.new.items h → (place.now ≡ h) ⊎ IsKept rows.old.items h) }
     ensures fault { IfErr result IsNotFull }
 {
-    let copy = copy_of(alloc, place)?;
+    let copy = Box::new(alloc, copy_of(alloc, place)?)?;
     keep_at(rows, at, Kept { mark, place: copy })?;
     Ok(())
 }
