@@ -20,7 +20,7 @@ use Rattle.mr_explore_noted.specs.Searched.{HasAll, HasSearched}
 use Rattle.mr_explore_noted.specs.Laws.{JoinedHasAll}
 use Rattle.mr_explore_noted.proofs.Lists.{true_and_false}
 use Rattle.mr_explore_noted.proofs.Telling.{tells_none}
-use Rattle.mr_explore_workers.specs.inner.Working.{AreDone, Divides, HasDone, HasDoneOrStops, HasWorked, HaveWorked, Working, parts_at, taken}
+use Rattle.mr_explore_workers.specs.inner.Working.{AreDone, Divides, EachSearches, HasDone, HasDoneOrStops, HasNext, HasWorked, HaveWorked, Searches, Working, parts_at, taken}
 use Rattle.mr_explore_workers.proofs.Lists.{all_at, one_more, one_of_more}
 
 pub not_stopped : (f : Option WalkFault) → is_some f ≡ false → f ≡ None
@@ -174,6 +174,10 @@ module _ {S F : Type 0} (steps : Steps S F) (rest : S → ℕ) (before : S → S
     pub none_yet : (ws : List (Working S F)) → ws ≡ [] → AllWorked [] ws
     none_yet ws e = subst (AllWorked []) (sym e) refl
 
+    -- one worker before them, which has searched nothing
+    pub worked_first : (w : Working S F) (ws : List (Working S F)) → Worked [] w → AllWorked [] ws → AllWorked [] (w ∷ ws)
+    worked_first w ws g h = ([], [], (λ l i. absurd i), (λ l i. absurd i), g, h, λ l i. absurd i)
+
     more-taken : (mine others given some more : List (Level S F)) → Are given mine others → Are ((some ++ more) ++ given) (some ++ mine) (more ++ others)
     more-taken mine others given some more f x i = by (in_either x (some ++ more) given i) where
       of-new : In x some ⊎ In x more → In x (some ++ mine) ⊎ In x (more ++ others)
@@ -209,19 +213,16 @@ module _ {S F : Type 0} (steps : Steps S F) (rest : S → ℕ) (before : S → S
       by (inr j) = of-old (f x j)
 
     -- behind a round, in which each of them searched some of these parts
-    pub all_worked : (parts : List (Level S F)) (ws new : List (Working S F)) (given : List (Level S F)) → length ws ≡ length new
-        → ((i : ℕ) (d : Working S F) → i < length ws → (mine : List (Level S F)) → Worked mine (get_or ws i d) → Worked (parts_at parts (get_or new i d).took ++ mine) (get_or new i d))
-        → AllWorked given ws → AllWorked (taken parts new ++ given) new
-    all_worked parts [] [] given len works h = h
-    all_worked parts [] (v ∷ new) given len works h = absurd (omega arith)
-    all_worked parts (w ∷ ws) [] given len works h = absurd (omega arith)
-    all_worked parts (w ∷ ws) (v ∷ new) given len works h = (
+    pub all_worked : (parts : List (Level S F)) (ws new : List (Working S F)) (given : List (Level S F)) → All Part parts → EachSearches steps rest before void like ends end events parts ws new → AllWorked given ws → AllWorked (taken parts new ++ given) new
+    all_worked parts [] new given are each h = subst (λ (vs : List (Working S F)). AllWorked (taken parts vs ++ given) vs) (sym each) h
+    all_worked parts (w ∷ ws) [] given are each h = absurd each
+    all_worked parts (w ∷ ws) (v ∷ new) given are each h = (
       parts_at parts v.took ++ h.0,
       taken parts new ++ h.1,
       more-taken h.0 h.1 given (parts_at parts v.took) (taken parts new) h.2,
       others-taken h.1 given (parts_at parts v.took) (taken parts new) h.3,
-      works 0 w (omega arith) h.0 h.4,
-      all_worked parts ws new h.1 (omega arith) (λ i d few. works (suc i) d (omega arith)) h.5,
+      each.0 bounds first h.0 are h.4,
+      all_worked parts ws new h.1 are each.1 h.5,
       mine-taken h.0 given (parts_at parts v.took) (taken parts new) h.6,
     )
 
@@ -289,15 +290,31 @@ module _ {S F : Type 0} (steps : Steps S F) (rest : S → ℕ) (before : S → S
     pub all_joined : (t : Table) → AllDone t [] → HasAll steps rest before void like ends end events bounds first (whole first) [] t
     all_joined t h = subst (λ (given : List (Level S F)). HasAll steps rest before void like ends end events bounds first (whole first) given t) h.2 h.1
 
+  -- ---- each of some workers has searched
+
+  -- what each of them does, by its place
+  pub each_searches : (parts : List (Level S F)) (ws vs : List (Working S F)) → length ws ≡ length vs
+      → ((i : ℕ) (d : Working S F) → i < length ws → Searches steps rest before void like ends end events parts (get_or ws i d) (get_or vs i d)) → EachSearches steps rest before void like ends end events parts ws vs
+  each_searches parts [] [] len each = refl
+  each_searches parts [] (v ∷ vs) len each = absurd (omega arith)
+  each_searches parts (w ∷ ws) [] len each = absurd (omega arith)
+  each_searches parts (w ∷ ws) (v ∷ vs) len each = (each 0 w (omega arith), each_searches parts ws vs (omega arith) (λ i d few. each (suc i) d (omega arith)))
+
+  -- and some others
+  pub both_search : (parts : List (Level S F)) (ws vs xs ys : List (Working S F)) → EachSearches steps rest before void like ends end events parts ws vs → EachSearches steps rest before void like ends end events parts xs ys → EachSearches steps rest before void like ends end events parts (ws ++ xs) (vs ++ ys)
+  both_search parts [] vs xs ys each others = subst (λ (zs : List (Working S F)). EachSearches steps rest before void like ends end events parts xs (zs ++ ys)) (sym each) others
+  both_search parts (w ∷ ws) [] xs ys each others = absurd each
+  both_search parts (w ∷ ws) (v ∷ vs) xs ys each others = (each.0, both_search parts ws vs xs ys each.1 others)
+
   -- ---- of each content that was held before
 
   -- a worker has searched the parts at these places more
   abbrev pub StaysDone : (parts : List (Level S F)) (took : List ℕ) → State S F → Table → State S F → Table → Type 0
   StaysDone parts took s t new u = (bounds : Bounds) (first : S) (mine : List (Level S F)) → All (IsPart steps bounds first) parts → HasDone steps rest before void like ends end events bounds first mine s t → HasDone steps rest before void like ends end events bounds first (parts_at parts took ++ mine) new u
 
-  -- some rounds were made
-  abbrev pub StaysDivided : State S F → Table → List (Working S F) → State S F → Table → List (Working S F) → Type 0
-  StaysDivided s t ws new u vs = (bounds : Bounds) (first : S) → Divides steps rest before void like ends end events bounds first false s t ws → Divides steps rest before void like ends end events bounds first false new u vs
+  -- some rounds were made, and this one is next
+  abbrev pub StaysDivided : State S F → Table → List (Working S F) → (is_last : Bool) → (parts : List (Level S F)) → State S F → Table → List (Working S F) → Type 0
+  StaysDivided s t ws is_last parts new u vs = (bounds : Bounds) (first : S) → Divides steps rest before void like ends end events bounds first s t ws → HasNext steps rest before void like ends end events bounds first is_last parts new u vs
 
   -- the tables of some workers were joined
   abbrev pub StaysJoined : Table → List (Working S F) → Table → List (Working S F) → Type 0

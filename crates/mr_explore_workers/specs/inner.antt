@@ -1,2 +1,3 @@
 -- Words for private contracts and for proofs. No public clause cites them.
+pub mod Calls
 pub mod Working

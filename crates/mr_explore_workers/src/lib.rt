@@ -21,10 +21,12 @@
 //!   away, and most of what comes of the part's faults soon goes on as that run does.
 //! - **Rounds.** The search gives away 128 parts for each worker. Whoever is free copies the next one and searches it, since one part may cost many times what
 //!   another one does. Runs that the search meets while it looks for parts are noted at once.
+//! - **The leader is a worker that takes the next round first**, while the others search this one. One thread alone took a tenth of the time to take them. The first
+//!   round has the parts of one worker, since nobody works before it.
 //! - **A worker tells which parts it searched**, by their places. Behind the round each place has to be told, or that is a mismatch: nothing is known of a number
 //!   that threads share.
-//! - **Each worker lets its own places go** behind the last round. Where it keeps many they are gigabytes in small pieces, and one thread would take seconds for
-//!   all of them.
+//! - **Each worker lets its own places go** behind the last round, and the search its own once it has given the last part away. Where many are kept they are
+//!   gigabytes in small pieces, and one thread would take seconds for all of them.
 //! - **Tables are joined at the end**, in the order of the workers. The order is no matter.
 //! - **A worker that stops keeps its fault**, and the search stops behind the round. The contract does not rest on that: a table of a worker that has stopped is
 //!   never joined.
@@ -35,9 +37,12 @@
 //!   workers have searched what they had, and the parts of the round (`taken`).
 //! - Lists of parts are compared by `AreThoseOf` of mr_explore_places: no part need stand there once.
 //! - `proofs/Sharing` is of workers, `proofs/Lists` of which parts they tell, and `proofs/Dividing` of the search that gives parts away.
-//! - The closure of `work_all` states its clause: one without a clause says nothing that an answer can name.
+//! - The closures of `work_all` and `lead` state their clauses: one without a clause says nothing that an answer can name.
+//! - `HasNext` is what a round begins with: its parts were given away last, and the workers have searched all that were given away before.
 #![tactic(auto)]
 
+mod leader;
+mod pair;
 mod parted;
 mod parts;
 mod worker;

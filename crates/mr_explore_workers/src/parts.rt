@@ -13,6 +13,7 @@ use mr_explore_noted::{Noted, NotedRun};
 use mr_explore_places::{Bounds, Next, Part, Search};
 use mr_explore_search::WalkFault;
 use std::alloc::{AllocError, Global};
+use std::sync::atomic::AtomicUsize;
 
 // A round has so many parts for each worker.
 const PARTS: usize = 128;
@@ -20,42 +21,73 @@ const PARTS: usize = 128;
 // All workers together have one row for places where the search has so many: a worker needs no more than those of the parts that it searched last.
 const SHARE: usize = 4;
 
-/// So many workers, which have searched nothing yet. They divide the rows among them in which they keep places.
+/// In so many rows each of so many workers keeps places.
+pub fn rows_for(threads: usize, bounds: &Bounds) -> usize {
+    bounds.rows / SHARE / threads.max(1)
+}
+
+/// So many workers, which have searched nothing yet, and keep places in so many rows each.
 pub fn workers_for<R: NotedRun>(
     alloc: Global,
-    threads: usize,
+    count: usize,
     bounds: &Bounds,
+    rows: usize,
 ) -> Result<Vec<Worker<R>>, AllocError>
     ensures { IfOk result (λ workers. (first : R) → HaveWorked R.steps R.rest R.before R.void R.like R.ends R.end R.events bounds.now first [] workers.items) }
 {
-    let rows = bounds.rows / SHARE / threads.max(1);
     let mut workers = Vec::new(alloc);
-    for _ in 0..threads {
+    for _ in 0..count {
         let worker = Worker::new(alloc, bounds, rows)?;
         workers.push(worker)?;
     }
     Ok(workers)
 }
 
-/// The parts of the next round, for so many workers, and whether nothing is left behind them. Runs that are found meanwhile are noted.
-pub fn take_parts<R: NotedRun>(
+/// A round: the parts that the workers search in it, which of them is the next to be searched, and whether no part is left for another round.
+#[derive(Drop)]
+pub struct Round<R: NotedRun> {
+    pub parts: Vec<Part<R, R::Fault>>,
+    pub next: AtomicUsize,
+    pub is_last: bool,
+}
+
+impl<R: NotedRun> Round<R> {
+    // None of these parts is searched yet.
+    fn of(parts: Vec<Part<R, R::Fault>>, is_last: bool) -> Round<R>
+        ensures parts { result.parts.items ≡ parts.items }
+        ensures is_last { result.is_last ≡ is_last }
+    {
+        let next = AtomicUsize::new(0);
+        Round {
+            parts,
+            next,
+            is_last,
+        }
+    }
+}
+
+/// The next round, for so many workers. Runs that are found meanwhile are noted. Where no part is left for another round, the search keeps no place any more.
+pub fn take_round<R: NotedRun>(
     alloc: Global,
     search: &mut Search<R>,
     noted: &mut Noted<R>,
     workers: usize,
-) -> Result<(Vec<Part<R, R::Fault>>, bool), WalkFault>
+) -> Result<Round<R>, WalkFault>
     ensures takes { (bounds : places.Bounds) (first : R) (given : List (Level R R.Fault)) → IsOnTheWay R.steps R.rest R.before R.void R.like R.ends R.end R.events bounds first (whole first) given search.old noted.old
-        → IfOk result (λ round. TakesParts R.steps R.rest R.before R.void R.like R.ends R.end R.events bounds first round.1 given round.0.items search.new noted.new) }
+        → IfOk result (λ round. TakesParts R.steps R.rest R.before R.void R.like R.ends R.end R.events bounds first round.is_last given round.parts.items search.new noted.new) }
     ensures fault { (bounds : places.Bounds) (first : R) (given : List (Level R R.Fault)) → IsOnTheWay R.steps R.rest R.before R.void R.like R.ends R.end R.events bounds first (whole first) given search.old noted.old → IfErr result (Stops R.steps bounds.faults bounds.steps first) }
 {
     let mut parts = Vec::new(alloc);
     for _ in 0..workers.saturating_mul(PARTS) {
         match next_part(alloc, search, noted)? {
             Some(part) => parts.push(part)?,
-            None => return Ok((parts, true)),
+            None => {
+                search.forget_places(alloc);
+                return Ok(Round::of(parts, true));
+            }
         }
     }
-    Ok((parts, false))
+    Ok(Round::of(parts, false))
 }
 
 // The next part, if there is one. Runs that are found before it are noted.

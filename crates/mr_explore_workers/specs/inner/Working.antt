@@ -1,5 +1,5 @@
 -- What workers have searched of the parts that a search gave away (our own profile).
-use Rattle.std.specs.Prelude.{◌≡◌, ◌++◌, ℕ, Bool, true, false, nat_eq, List, [], ◌∷◌, Option, Some, None, slice_get}
+use Rattle.std.specs.Prelude.{◌≡◌, ◌++◌, ℕ, Bool, true, false, nat_eq, List, [], ◌∷◌, Option, Some, None, is_some, IfSome, Result, Ok, IfOk, IfErr, slice_get}
 use Rattle.std.specs.List.{All, list_any}
 use Rattle.std.specs.Option.{option_to_list}
 use Rattle.mr_world_events.specs.declared.event.Event.{Event}
@@ -55,6 +55,16 @@ module _ {S F : Type 0} (steps : Steps S F) (rest : S → ℕ) (before : S → S
   abbrev pub HasWorked : Bounds → (first : S) → (mine : List (Level S F)) → Working S F → Type 0
   HasWorked bounds first mine w = HasDoneOrStops w.fault bounds first mine w.search w.table
 
+  -- a worker has searched besides those of these parts that stand at the places that it tells
+  abbrev pub Searches : (parts : List (Level S F)) → Working S F → Working S F → Type 0
+  Searches parts w v = (bounds : Bounds) (first : S) (mine : List (Level S F)) → All (IsPart steps bounds first) parts → HasWorked bounds first mine w → HasWorked bounds first (parts_at parts v.took ++ mine) v
+
+  -- each of them has
+  abbrev pub EachSearches : (parts : List (Level S F)) → List (Working S F) → List (Working S F) → Type 0
+  EachSearches parts [] vs = vs ≡ []
+  EachSearches parts (w ∷ ws) [] = ⊥
+  EachSearches parts (w ∷ ws) (v ∷ vs) = Searches parts w v × EachSearches parts ws vs
+
   -- one of the workers has searched each of these parts, or has stopped
   abbrev pub HaveWorked : Bounds → (first : S) → (given : List (Level S F)) → List (Working S F) → Type 0
   HaveWorked bounds first given [] = given ≡ []
@@ -67,9 +77,9 @@ module _ {S F : Type 0} (steps : Steps S F) (rest : S → ℕ) (before : S → S
   Gives bounds first false given s t = IsOnTheWay steps rest before void like ends end events bounds first (whole first) given s t
   Gives bounds first true given s t = HasAll steps rest before void like ends end events bounds first (whole first) given t
 
-  -- the same, and the workers have searched what was given away
-  abbrev pub Divides : Bounds → (first : S) → (is_done : Bool) → State S F → Table → List (Working S F) → Type 0
-  Divides bounds first is_done s t ws = (given : List (Level S F)) × Gives bounds first is_done given s t × HaveWorked bounds first given ws
+  -- the search is on its way, and the workers have searched what it gave away
+  abbrev pub Divides : Bounds → (first : S) → State S F → Table → List (Working S F) → Type 0
+  Divides bounds first s t ws = (given : List (Level S F)) × IsOnTheWay steps rest before void like ends end events bounds first (whole first) given s t × HaveWorked bounds first given ws
 
   -- all is found but for what the workers have searched
   abbrev pub AreDone : Bounds → (first : S) → Table → List (Working S F) → Type 0
@@ -88,3 +98,15 @@ module _ {S F : Type 0} (steps : Steps S F) (rest : S → ℕ) (before : S → S
     pub parts_too : AreThoseOf steps rest before void like ends parts all []
     pub given_too : AreThoseOf steps rest before void like ends given all []
     pub are_parts : All (IsPart steps bounds first) parts
+
+  -- What is answered beside a round: the next one, whose end and parts these functions tell; behind the last one none, and the table is the same.
+  pub record TakesNext {X : Type 0} (last_of : X → Bool) (parts_of : X → List (Level S F)) (is_last : Bool) (answer : Result (Option X) WalkFault) (s : State S F) (t : Table) (new : State S F) (u : Table) : Type 0 where
+    pub none : is_last ≡ true → (answer ≡ Ok None) × (u ≡ t)
+    pub some : is_last ≡ false → IfOk answer (λ next. is_some next ≡ true)
+    pub takes : is_last ≡ false → (bounds : Bounds) (first : S) (given : List (Level S F)) → IsOnTheWay steps rest before void like ends end events bounds first (whole first) given s t
+        → IfOk answer (λ next. IfSome next (λ x. TakesParts bounds first (last_of x) given (parts_of x) new u))
+    pub stops : is_last ≡ false → (bounds : Bounds) (first : S) (given : List (Level S F)) → IsOnTheWay steps rest before void like ends end events bounds first (whole first) given s t → IfErr answer (Stops steps bounds.faults bounds.steps first)
+
+  -- These parts were given away last; the workers have searched all that were given away before.
+  abbrev pub HasNext : Bounds → (first : S) → (is_last : Bool) → (parts : List (Level S F)) → State S F → Table → List (Working S F) → Type 0
+  HasNext bounds first is_last parts s t ws = (given : List (Level S F)) × TakesParts bounds first is_last given parts s t × HaveWorked bounds first given ws

@@ -1,5 +1,5 @@
 use Rattle.mr_explore_workers.proofs.Dividing.{TakesSoFar}
-use Rattle.mr_explore_workers.proofs.parts.take_parts.Given as goal
+use Rattle.mr_explore_workers.proofs.parts.take_round.Given as goal
 
 -- these parts were taken so far
 abbrev pub invariant-loop : goal.invariant-loop
