@@ -14,6 +14,7 @@
 #![tactic(auto)]
 
 mod asked;
+mod help;
 mod words;
 
 pub use asked::{Asked, Command, Failing};

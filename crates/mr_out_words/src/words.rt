@@ -3,29 +3,10 @@ ghost use Rattle.std.specs.Prelude.{◌≡◌, codes, IfSome, IfNone};
 ghost use Rattle.mr_out_words.specs.Asking.{text_in, IsFlag, IsNumber, IsFailingBy, IsCommandBy, IsNamedBy, IsAskedBy, IsNoCommand, name_of};
 
 use crate::asked::{Asked, Command, Failing};
+use crate::help::{about, ends, place_help};
 use clap::builder::ValueParser;
 use clap::{Arg, ArgAction, ArgMatches};
 use std::alloc::{AllocError, Global};
-
-const BEGIN: &str = "Makes DIR, the output directory of a job of N tasks";
-
-const ATTEMPT: &str =
-    "Begins an attempt: prints its task, its name, and the path of the file that it is to write";
-
-const DONE: &str = "The attempt has written and closed its file: prints `won`, or `lost` and why";
-
-const FAIL: &str = "The attempt failed, or is given up";
-
-const PUBLISH: &str = "Publishes what `begin --hold` holds back, if each task is won";
-
-const ABORT: &str = "Ends the job as failed";
-
-const RESUME: &str =
-    "Finishes what a killed command left; status 0 says that it did, and `mrout check` whether DIR is published";
-
-const FORGET: &str = "Removes what mrout keeps in a published DIR";
-
-const STATUS: &str = "Tells how the job stands; changes nothing";
 
 const NAMES: &[&str] = &[
     "begin", "attempt", "done", "fail", "publish", "abort", "resume", "forget", "status",
@@ -41,20 +22,6 @@ const ATTEMPT_OR_ALL: &[&str] = &["ATTEMPT", "all"];
 
 const ATTEMPT_OR_TASK: &[&str] = &["ATTEMPT", "task"];
 
-fn about<'a>(name: &str) -> &'a str {
-    match name {
-        "begin" => BEGIN,
-        "attempt" => ATTEMPT,
-        "done" => DONE,
-        "fail" => FAIL,
-        "publish" => PUBLISH,
-        "abort" => ABORT,
-        "resume" => RESUME,
-        "forget" => FORGET,
-        _ => STATUS,
-    }
-}
-
 /// The command lines of the commands. Which name and words each has, no clause of clap says of a whole command line.
 pub fn subcommands<'a>(alloc: Global) -> Result<Vec<clap::Command<'a>>, AllocError> {
     let mut commands = Vec::new(alloc);
@@ -68,6 +35,7 @@ fn subcommand<'a>(alloc: Global, name: &'static str) -> Result<clap::Command<'a>
     let args = args_of(alloc, name)?;
     clap::Command::new(alloc, name)
         .about(about(name))
+        .after_help(ends(name))
         .args(args)
 }
 
@@ -107,6 +75,7 @@ fn put_begin(alloc: Global, args: &mut Vec<Arg<'_>>) -> Result<(), AllocError> {
     args.push(text(
         alloc,
         "suffix",
+        "S",
         "What ends the name of each part file, as .csv.gz",
     ))?;
     args.push(hold_word(alloc))?;
@@ -188,6 +157,7 @@ fn unless<'a>(arg: Arg<'a>, ids: &[&'static str]) -> Result<Arg<'a>, AllocError>
 
 fn place<'a>(alloc: Global, name: &'static str, is_required: bool) -> Arg<'a> {
     Arg::new(alloc, name)
+        .help(place_help(name))
         .action(ArgAction::Set)
         .required(is_required)
 }
@@ -199,11 +169,12 @@ fn flag<'a>(alloc: Global, name: &'static str, help: &'static str) -> Arg<'a> {
         .action(ArgAction::SetTrue)
 }
 
-fn text<'a>(alloc: Global, name: &'static str, help: &'static str) -> Arg<'a> {
+fn text<'a>(alloc: Global, name: &'static str, value: &'static str, help: &'static str) -> Arg<'a> {
     Arg::new(alloc, name)
         .long(name)
         .help(help)
         .action(ArgAction::Set)
+        .value_name(value)
 }
 
 fn number<'a>(

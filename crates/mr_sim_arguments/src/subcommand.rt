@@ -16,8 +16,9 @@ use std::alloc::{AllocError, Global};
 const ABOUT: &str =
     "Simulates the part of a Hadoop MapReduce cluster that decides whose output counts.";
 
-// What stands behind the program's name where its version is asked for. It is our own.
-const VERSION: &str = "0.1.0, built of proved crates";
+// What `--version` says. `mrout` has the same number, and `tools/package` reads both. Whether a program was built of proved crates no text in it
+// can say: the file BUILD of a package does.
+const VERSION: &str = "0.2.0";
 
 const STATUSES: &str = "\
 Each subcommand but `step` and `task` reads standard input, or FILE, to its end, and then writes standard output.

@@ -12,8 +12,8 @@ use std::alloc::{AllocError, Global};
 const ABOUT: &str =
     "Publishes one whole file of each task in an output directory, under _SUCCESS; and tells whether one may be read.";
 
-// What stands behind the program's name where its version is asked for. It is our own.
-const VERSION: &str = "0.1.0, built of proved crates";
+// What `--version` says: the number of `mrsim`.
+const VERSION: &str = "0.2.0";
 
 const STATUSES: &str = "\
 Statuses:
