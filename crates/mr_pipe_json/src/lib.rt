@@ -1,5 +1,7 @@
 //! The lines of a pipe as objects of JSON, both ways. The first word of a line is at a key, those behind it at `words`.
 //!
+//! A word is escaped in an object as in a line, since a name may have bytes that are no text.
+//!
 //! # What is proved
 //!
 //! - **`said_as`**: a line that is written, in either form, is exactly that of the definition (`said_as` of specs/Form): the line itself, or its object (`line_object`),

@@ -8,6 +8,8 @@
 //! | `done ATTEMPT` | it committed | `wins`, `wins already`, `ignored`; `refused Unknown` |
 //! | `recorded`, `failed`, `ended`, `killed`, `lost` with `ATTEMPT` | its success is on record; it failed; its container ended; it was stopped; its output is lost | `noted`; `refused Unknown` |
 //!
+//! A refused launch is no call: the past that an answer is read off has what was taken.
+//!
 //! # What is proved
 //!
 //! - **`talk`, bytes to bytes**: for every input, what is written is exactly what the definition says (`Talks`): to each line its answer, which is read off the calls
