@@ -4,7 +4,9 @@
 //!
 //! - **`drive`**, for every job, gate, plan and number of turns: a `Report` is of a world of the plan's config, and has
 //!   the number of a seat for each event. The journal follows the plan (`Follows` of mr_board_report): until its end
-//!   each fault was made as soon as it was due, or the world refused it; nothing else is disturbed. Each result in its
+//!   each fault was made as soon as it was due, or the world refused it; no other crash, restart or expiry happens, and
+//!   no store call is disturbed. A container may die by itself: that it does so only where its work was refused is in
+//!   no clause (a row of tools/hostile crashes four masters, and the job succeeds). Each result in its
 //!   journal is what the job's functions give. An outcome was told, or the newest master is Stopped. `files` is what a
 //!   reader of the destination sees. `succeeded` is whether success was told. Where it was, the files are the job's
 //!   sequential execution's, and nothing else (`IsReported`).

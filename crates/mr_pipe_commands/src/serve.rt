@@ -1,8 +1,10 @@
 //! One subcommand that serves another program, from the words to the exit status.
-use crate::files::{bytes_of, no_memory, segments_of, too_long, unread};
+ghost use Rattle.std.specs.Prelude.{◌≡◌};
+
+use crate::named;
 use clap::ArgMatches;
 use mr_ids::{AppAttempt, TaskId};
-use mr_pipe::Form;
+use mr_pipe::{Form, PipeFault, say};
 use mr_recover::Staging;
 use mr_sim_arguments::{
     COMMIT_FAIL, COMMIT_STARTED, COMMIT_SUCCESS, DEST, FILE, GENERATION, JSON, OPERATION, TASK_NAME,
@@ -44,7 +46,9 @@ fn generation_of(words: &ArgMatches<'_>) -> Option<AppAttempt> {
 }
 
 // Refuses the command line, with what is wrong of it.
-fn refuse(rt: &HostRuntime, word: &str, name: &str, why: &str) -> u8 {
+fn refuse(rt: &HostRuntime, word: &str, name: &str, why: &str) -> u8
+    ensures { result ≡ 2 }
+{
     let _ = eprintln!(rt; "error: invalid value '{word}' for '<{name}>': {why}");
     2
 }
@@ -119,32 +123,24 @@ fn task_of(rt: &HostRuntime, task: TaskId, generation: AppAttempt, form: Form) -
     }
 }
 
+// The status of a lack of memory, when it is said.
+fn no_memory(rt: &HostRuntime) -> u8
+    ensures { result ≡ 5 }
+{
+    // Where it cannot be written it is dropped, and the status says it.
+    let _ = say(&mut rt.stderr(), PipeFault::NoMemory);
+    5
+}
+
 fn judge(rt: &HostRuntime, words: &ArgMatches<'_>) -> u8 {
-    let form = form_of(words);
-    let alloc: Global = rt.alloc();
-    match words.get_str(FILE) {
-        None | Some("-") => mr_judge::run(
-            alloc,
-            form,
-            &mut rt.stdin(),
-            &mut io::writer(rt),
-            &mut rt.stderr(),
-        ),
-        Some(name) => match bytes_of(rt, name) {
-            Ok(Some(bytes)) => {
-                let mut trace = bytes.as_slice();
-                mr_judge::run(
-                    alloc,
-                    form,
-                    &mut trace,
-                    &mut io::writer(rt),
-                    &mut rt.stderr(),
-                )
-            }
-            Ok(None) => too_long(rt, name),
-            Err(fault) => unread(rt, name, fault),
-        },
-    }
+    named::judge(
+        rt.alloc(),
+        rt,
+        form_of(words),
+        words.get_str(FILE).unwrap_or("-"),
+        &mut io::writer(rt),
+        &mut rt.stderr(),
+    )
 }
 
 fn recovery(rt: &HostRuntime, words: &ArgMatches<'_>) -> u8 {
@@ -153,15 +149,13 @@ fn recovery(rt: &HostRuntime, words: &ArgMatches<'_>) -> u8 {
         fail: words.get_flag(COMMIT_FAIL),
         started: words.get_flag(COMMIT_STARTED),
     };
-    match segments_of(rt, words.get_strs(FILE).unwrap_or(STANDARD_INPUT)) {
-        Ok(segments) => mr_recover_plan::run(
-            rt.alloc(),
-            form_of(words),
-            &segments,
-            staging,
-            &mut io::writer(rt),
-            &mut rt.stderr(),
-        ),
-        Err(status) => status,
-    }
+    named::recovery(
+        rt.alloc(),
+        rt,
+        form_of(words),
+        words.get_strs(FILE).unwrap_or(STANDARD_INPUT),
+        staging,
+        &mut io::writer(rt),
+        &mut rt.stderr(),
+    )
 }

@@ -1,4 +1,5 @@
 mod Commands
 mod Objects
 mod Histories
+mod Orders
 mod Programs

@@ -10,7 +10,7 @@ use Rattle.mr_recover.specs.declared.plan.Recovery.{Recovery}
 use Rattle.mr_recover.specs.declared.plan.Recovery.TheVariants.{Resume, Succeeded, Failed}
 use Rattle.mr_recover.specs.declared.winner.TaskWinner.{TaskWinner}
 use Rattle.mr_recover_plan.specs.declared.fault.PlanFault.{PlanFault}
-use Rattle.mr_recover_plan.specs.declared.fault.PlanFault.TheVariants.{BadLine, NoMemory}
+use Rattle.mr_recover_plan.specs.declared.fault.PlanFault.TheVariants.{BadLine, EarlierGeneration, NoMemory}
 
 -- the length of the part file, where it is recorded
 abbrev pub length_text : Option ℕ → List ℕ
@@ -56,4 +56,5 @@ said_of form (Err e) = []
 abbrev pub status_of : Result Recovery PlanFault → ℕ
 status_of (Ok plan) = 0
 status_of (Err (BadLine segment line)) = 3
+status_of (Err (EarlierGeneration segment)) = 3
 status_of (Err NoMemory) = 5

@@ -16,7 +16,7 @@ use std::alloc::Global;
 use std::io;
 use std::io::Write;
 
-/// Finds the plan for these segments, the oldest first, and writes it. Where a line is none, or there was no memory, nothing is written.
+/// Finds the plan for these segments, the oldest first, and writes it. Where a segment is refused, or there was no memory, nothing is written.
 ///
 /// `Write`: a write or a flush failed. `NoMemory`: memory was refused once there was a plan.
 #[tactic(auto, using(crate::proofs::Commands::planned_as))]
@@ -36,7 +36,7 @@ pub fn recover<W: Write>(
     Ok(planned)
 }
 
-/// Runs `mrsim recovery`, and answers its exit status: 0 where there is a plan, 3 where a line is none, 4 if a stream failed, 5 if there was no memory.
+/// Runs `mrsim recovery`, and answers its exit status: 0 where there is a plan, 3 where a segment is refused, 4 if a stream failed, 5 if there was no memory.
 #[tactic(auto, using(crate::proofs::Programs::is_planned, crate::proofs::Programs::failed))]
 pub fn run<W: Write, E: Write>(
     alloc: Global,
@@ -66,6 +66,7 @@ fn say_fault<E: Write>(errors: &mut E, planned: &Result<Recovery, PlanFault>) ->
     match planned {
         Ok(_) => Ok(()),
         Err(PlanFault::BadLine { segment, line }) => say_line(errors, *segment, *line),
+        Err(PlanFault::EarlierGeneration { segment }) => say_earlier(errors, *segment),
         Err(PlanFault::NoMemory) => say(errors, PipeFault::NoMemory),
     }
 }
@@ -77,4 +78,13 @@ fn say_line<E: Write>(errors: &mut E, segment: usize, line: usize) -> io::Result
     errors.write_all(b": bad line ")?;
     errors.write_all(buffer.format(line).as_bytes())?;
     errors.write_all(b"\n")
+}
+
+fn say_earlier<E: Write>(errors: &mut E, segment: usize) -> io::Result<()> {
+    let mut buffer = Buffer::new();
+    errors.write_all(b"mrsim: segment ")?;
+    errors.write_all(buffer.format(segment).as_bytes())?;
+    errors.write_all(
+        b": earlier generation\n  an attempt in it is of an earlier master than one before it: name the oldest segment first\n",
+    )
 }

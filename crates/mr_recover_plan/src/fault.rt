@@ -17,6 +17,12 @@ pub enum PlanFault {
         /// The number of the line, from 1.
         line: usize,
     },
+    /// A record of a segment is of an earlier generation than one before it, so the segments are not given oldest first.
+    #[error("segment {segment}: earlier generation")]
+    EarlierGeneration {
+        /// Which segment it is, from 1.
+        segment: usize,
+    },
     /// There was no memory.
     #[error("no memory")]
     NoMemory,

@@ -5,7 +5,8 @@
 //!
 //! - **`planned`**: for every list of segments, the plan is that of the definition (`Plans`): the segments' records, in their order, are those that a master reads
 //!   (`records_of` of `mr_history`), and the plan is `IsPlan` of `mr_recover` for them and the marks, among which a record of a failed job counts as
-//!   COMMIT_FAIL. `BadLine` is the first line that is none, of the first segment that has one.
+//!   COMMIT_FAIL. The first segment that is refused is named: `BadLine` by the first line that is none, `EarlierGeneration` where a record in it is of an earlier
+//!   generation than one before it (`Order`).
 //! - **`recover`, bytes to bytes**: what is written is what is said of that plan (`said_of`); nothing where there is none.
 //! - **`run`**, which the program calls: its status is that of the plan (`Runs`). `status_of` is the table of statuses.
 //!

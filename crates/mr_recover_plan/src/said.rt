@@ -75,13 +75,13 @@ pub fn said_of(
     }
 }
 
-/// The exit status: 0 where there is a plan, 3 where a line is none, 5 where there was no memory.
+/// The exit status: 0 where there is a plan, 3 where a segment is refused, 5 where there was no memory.
 pub fn status_of(planned: &Result<Recovery, PlanFault>) -> u8
     ensures { result ≡ status_of planned.now }
 {
     match planned {
         Ok(_) => 0,
-        Err(PlanFault::BadLine { .. }) => 3,
+        Err(PlanFault::BadLine { .. } | PlanFault::EarlierGeneration { .. }) => 3,
         Err(PlanFault::NoMemory) => 5,
     }
 }

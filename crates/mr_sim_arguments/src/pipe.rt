@@ -85,7 +85,7 @@ pub const RECOVERY: &str =
 pub const RECOVERY_HELP: &str = "\
 Reads the segments (see `history`), the oldest first: each FILE, or standard input as one. Writes `resume`, and for each task that is
 taken over a line `recover TASK ATTEMPT`, with the bytes of its part file where they are recorded: what `step recover-task` takes.
-Status 3: a line is no record, or a segment has more than 16777216 bytes.
+Status 3: a line is no record, an attempt is of an earlier generation than one before it, or a segment has more than 16777216 bytes.
 Where a mark of the job's commit is there: `report succeeded`, or `report failed` (a job commit that began is not made again).
 Without a mark `report failed` tells that a segment has a line `unsuccessful`: make `step abort-job` first, then report it.
 

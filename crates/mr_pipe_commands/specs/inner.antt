@@ -1,0 +1,2 @@
+-- Words for private contracts and for proofs.
+pub mod Reading
