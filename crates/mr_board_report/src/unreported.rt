@@ -5,9 +5,13 @@ ghost use Rattle.mr_board_report.specs.declared.fault.DriveFault.TheVariants.{No
 use crate::fault::DriveFault;
 use mr_board::mr_world::World;
 use std::alloc::AllocError;
+use std::fmt;
+use std::fmt::{Debug, Formatter, Write};
+use thiserror::Error;
 
 /// Why there is no report, and the world of the run.
-#[derive(Drop)]
+#[derive(Drop, Error)]
+#[error("{fault}")]
 pub struct Unreported {
     /// Why there is none.
     pub fault: DriveFault,
@@ -24,5 +28,14 @@ impl From<AllocError> for Unreported {
             fault: DriveFault::from(e),
             world: None,
         }
+    }
+}
+
+// By hand: a world does not show itself.
+impl Debug for Unreported {
+    fn fmt<W: Write>(&self, f: &mut Formatter<W>) -> fmt::Result {
+        f.write_str("Unreported(")?;
+        self.fault.fmt(f)?;
+        f.write_str(")")
     }
 }

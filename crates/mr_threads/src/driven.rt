@@ -7,7 +7,7 @@ ghost use Rattle.mr_threads.specs.Runs.{IsReportOf, Reports};
 ghost use Rattle.mr_threads.specs.Text.{ShownFails};
 ghost use Rattle.mr_threads.specs.inner.{IsOfThreads, fault_of};
 
-use crate::manner::{Manner, is_for_pairs};
+use crate::manner::Manner;
 use mr_drive::{DriveFault, PairGate, Plan, Report, drive};
 use mr_jobs::{LineIndex, MaxByKey, WordCount};
 use mr_play::setup_of;
@@ -22,7 +22,7 @@ use std::thread::Threads;
 /// What came of a job text whose job threads ran, and the keys of the text that say nothing.
 ///
 /// `Job` names the first bad key of the job text. `TurnsSpent`, `JournalMismatch`, `Thread` and `Full` are those of
-/// `mr_drive`; `TurnsSpent` comes at once where a map's work is to be held, and no other map's can begin beside it (`is_for_pairs`). `NoMemory` may come at any
+/// `mr_drive`. `TurnsSpent` comes after few looks where a map's work is held, and no other map's can begin next to it (`is_for_pairs`). `NoMemory` may come at any
 /// text; no other fault comes.
 #[tactic(auto, using(crate::proofs::Failing::bad_text, crate::proofs::Failing::no_run, crate::proofs::Reported::reports_of))]
 pub fn report_of<H: AllocGlobal + Clock + Threads + Wait + Sync>(
@@ -62,7 +62,7 @@ fn driven_as<H: AllocGlobal + Clock + Threads + Wait + Sync>(
     }
 }
 
-// Runs a plan for a job, with a gate that holds or with one that is open. Where no second map work can begin, no gate holds the first.
+// Runs a plan for a job, with a gate that holds or with one that is open.
 fn driven_by<H: AllocGlobal + Clock + Threads + Wait + Sync, J: Job + Send + Sync>(
     rt: &H,
     job: &J,
@@ -79,10 +79,13 @@ where
     if !manner.hold {
         return driven_behind(rt, job, &OpenGate, plan, turns);
     }
-    if !is_for_pairs(plan.config.splits.len(), plan.config.nodes) {
-        return Err(SimFault::TurnsSpent);
-    }
-    driven_behind(rt, job, &PairGate::new(rt, turns), plan, turns)
+    driven_behind(
+        rt,
+        job,
+        &PairGate::new(rt, manner.looks_of(plan)),
+        plan,
+        turns,
+    )
 }
 
 // Runs a plan for a job, with this gate before each work.

@@ -8,13 +8,16 @@ const TURNS: u64 = 100_000;
 
 const TURNS_OF_A_FETCH: u64 = 10;
 
+// How many looks show that no second map work comes, where none can.
+const FEW_LOOKS: u64 = 1_000;
+
 /// How the threads are run.
 #[derive(Clone, Copy, Debug, PartialEq, Eq)]
 pub struct Manner {
     /// How many turns each thread has at most; where that is not told it follows from the job's size.
     pub turns: Option<u64>,
-    /// Whether the first map work is held until the second has begun, for at most as many looks as there are turns. The job has to have two splits and two
-    /// nodes then.
+    /// Whether the first map work is held until the second has begun, for at most as many looks as there are turns. A job of one split or of one node has no
+    /// second one: its first is held for few looks.
     pub hold: bool,
 }
 
@@ -24,6 +27,16 @@ impl Manner {
         match self.turns {
             Some(turns) => turns,
             None => default_turns(plan.config.maps(), plan.config.reduces),
+        }
+    }
+
+    // How many times the gate looks at most that holds the first map work.
+    pub(crate) fn looks_of(&self, plan: &Plan) -> u64 {
+        let turns = self.turns_of(plan);
+        if is_for_pairs(plan.config.splits.len(), plan.config.nodes) {
+            turns
+        } else {
+            turns.min(FEW_LOOKS)
         }
     }
 }

@@ -1,6 +1,6 @@
 //! Jobs that threads run: gates, and works at once. Runs with faults of a plan are rows of tools/hostile.
 use crate::fixtures::plan;
-use mr_drive::{DriveFault, Report, Unreported, drive};
+use mr_drive::{DriveFault, PairGate, Report, Unreported, drive};
 use mr_ids::TaskKind;
 use mr_jobs::WordCount;
 use mr_user::{Gate, GateFault, OpenGate};
@@ -131,6 +131,49 @@ impl Gate for ShutGate {
 fn a_gate_that_refuses_ends_the_run(rt: HostRuntime) {
     let plan = plan(&rt, rt.alloc(), r#""job":"wordcount","splits":["a b a"]"#);
     let driven = drive(&rt, rt.alloc(), &WordCount, &ShutGate, &plan, TURNS);
+    let unreported = driven.err().expect(&rt, "a report");
+    confirm!(rt; unreported.fault == DriveFault::TurnsSpent, &unreported.fault);
+    confirm!(rt; is_handed_back(&unreported));
+}
+
+// Alone, the first map work is held until the looks are spent, those between which the gate sleeps too. A reduce is no second map work; the
+// second one passes, and each behind it.
+#[test]
+fn a_pair_gate_holds_the_first_map_work(rt: HostRuntime) {
+    for looks in [0, 3, 1_003] {
+        let gate = PairGate::new(&rt, looks);
+        confirm!(rt; gate.enter(TaskKind::Reduce).is_ok());
+        confirm!(rt; gate.enter(TaskKind::Map).is_err());
+        confirm!(rt; gate.enter(TaskKind::Reduce).is_ok());
+        confirm!(rt; gate.enter(TaskKind::Map).is_ok());
+        confirm!(rt; gate.enter(TaskKind::Map).is_ok());
+    }
+}
+
+#[test]
+fn a_pair_gate_lets_two_map_works_pass(rt: HostRuntime) {
+    let two = plan(
+        &rt,
+        rt.alloc(),
+        r#""job":"wordcount","splits":["a b","a"],"nodes":2"#,
+    );
+    let gate = PairGate::new(&rt, TURNS);
+    let report = told(drive(&rt, rt.alloc(), &WordCount, &gate, &two, TURNS)).expect(
+        &rt, "a fault",
+    );
+    confirm!(rt; is_counted(&report));
+}
+
+// No second map work can begin on one node.
+#[test]
+fn a_pair_gate_ends_the_run_of_one_node(rt: HostRuntime) {
+    let one = plan(
+        &rt,
+        rt.alloc(),
+        r#""job":"wordcount","splits":["a b","a"],"nodes":1"#,
+    );
+    let gate = PairGate::new(&rt, 50);
+    let driven = drive(&rt, rt.alloc(), &WordCount, &gate, &one, TURNS);
     let unreported = driven.err().expect(&rt, "a report");
     confirm!(rt; unreported.fault == DriveFault::TurnsSpent, &unreported.fault);
     confirm!(rt; is_handed_back(&unreported));
