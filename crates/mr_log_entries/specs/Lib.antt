@@ -1,0 +1,2 @@
+-- The entries of a log, and what they record.
+pub mod Recorded
