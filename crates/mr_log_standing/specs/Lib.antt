@@ -3,3 +3,4 @@ pub mod Host
 pub mod Standing
 pub mod Deciding
 pub mod Lawful
+pub mod Laws

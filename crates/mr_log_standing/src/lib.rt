@@ -7,6 +7,7 @@
 mod decision;
 mod host;
 mod job;
+pub mod laws;
 mod order;
 mod standing;
 

@@ -1,0 +1,5 @@
+pub mod Winning
+pub mod Below
+pub mod Lost
+pub mod Once
+pub mod Jobs
