@@ -1,0 +1,137 @@
+-- What holds after every move: of the log, of each command that is under way, and of what was said.
+use Rattle.std.proofs.Common.{◌≡◌, ℕ, Bool, true, false, List, [], ◌∷◌, ◌++◌, Option, Some, None}
+use Rattle.std.specs.List.{list_any}
+use Rattle.mr_ids.specs.Attempt.{Attempt}
+use Rattle.mr_log_entries.specs.declared.line.Line.{Line}
+use Rattle.mr_log_entries.specs.declared.entry.Entry.{Entry}
+use Rattle.mr_log_entries.specs.declared.entry.Origin.{Origin}
+use Rattle.mr_log_entries.specs.Recorded.{lines_of}
+use Rattle.mr_log_disk.specs.declared.call.Call.{Call}
+use Rattle.mr_log_disk.specs.declared.call.Call.TheVariants as call
+use Rattle.mr_log_standing.specs.declared.job.Job.{Job}
+use Rattle.mr_log_standing.specs.declared.order.Order.{Order}
+use Rattle.mr_log_standing.specs.declared.order.Outcome.{Outcome}
+use Rattle.mr_log_standing.specs.declared.order.Outcome.TheVariants as outcome
+use Rattle.mr_log_standing.specs.declared.standing.Standing.{Standing}
+use Rattle.mr_log_standing.specs.Host.{Host}
+use Rattle.mr_log_standing.specs.Standing.{is_start_of, is_published, is_publishable, standing}
+use Rattle.mr_log_steps.specs.declared.phase.Phase.{Phase}
+use Rattle.mr_log_steps.specs.declared.phase.Phase.TheVariants.{Reading, SyncingLog, Putting, SyncingPut, ReadingOn, MakingWork, Claiming, TakingNote, ListingKept, HandingIn, DroppingNote, SyncingKept, ReadingList, Linking, Comparing, Marking, Emptying, EmptyingAll, Forgetting, SyncingForgotten, Over}
+use Rattle.mr_log_steps.specs.Commands.{Command, own_entry}
+use Rattle.mr_log_steps.specs.Turns.{begun_by}
+use Rattle.mr_log_model.specs.Worlds.{Setting, Saying, World}
+use Rattle.mr_log_model.specs.Promises.{IsLog, with_last, IsFront, IsDecided, AreDecided, IsAbout, HasSaid, HasSaidStart, IsAllowed, IsAmong}
+
+-- ---- what is said, and what is made
+
+-- the attempt stands so by entries that are durable
+pub record Stood (job : Job) (durable : List Entry) (a : Attempt) (st : Standing) : Type 0 where
+  pub by : List Entry
+  pub front : IsFront by durable
+  pub stands : standing job (lines_of by) a ≡ st
+
+-- the call is allowed by entries that are durable
+pub record Permits (job : Job) (durable : List Entry) (x : Call) : Type 0 where
+  pub by : List Entry
+  pub front : IsFront by durable
+  pub allows : IsAllowed job (lines_of by) x
+
+-- what is said of an attempt is so
+pub record IsSo (job : Job) (durable : List Entry) (o : Order) (end : Outcome) : Type 0 where
+  pub stands : (a : Attempt) (st : Standing) → IsAbout o a → end ≡ outcome.Stands st → Stood job durable a st
+  pub begun : (a : Attempt) → end ≡ outcome.Started a → Permits job durable (call.MakeWork a)
+
+-- ---- a command
+
+-- these attempts were begun
+abbrev pub AreBegun : List Line → List Attempt → Type 0
+AreBegun ls [] = Unit {0}
+AreBegun ls (a ∷ more) = (list_any (is_start_of a) ls ≡ true) × AreBegun ls more
+
+-- what a command knows of the log, by its phase
+pub data Stage : Type 0 where
+  -- a front of it, some of which may not be durable
+  Found : Stage
+  -- such a front, and its own entry in it
+  Noted : Stage
+  -- a durable front, which its own entry may follow
+  Makes : Stage
+  -- a durable front
+  Knows : Stage
+  -- one in which this attempt was begun, and those whose folders are still to be made
+  Opens : (a : Attempt) → Stage
+  -- one by which the job may be published
+  Shows : Stage
+  -- one by which it is published for good
+  Drops : Stage
+  -- what it says
+  Says : (end : Outcome) → Stage
+  -- what it says once this call was made
+  Clears : (x : Call) → (end : Outcome) → Stage
+
+abbrev pub stage : Phase → Stage
+stage Reading = Knows
+stage SyncingLog = Found
+stage Putting = Makes
+stage SyncingPut = Noted
+stage ReadingOn = Knows
+stage (MakingWork a) = Opens a
+stage (Claiming a) = Knows
+stage (TakingNote a) = Knows
+stage (ListingKept a) = Knows
+stage (HandingIn a) = Knows
+stage (DroppingNote a) = Knows
+stage (SyncingKept a) = Knows
+stage (ReadingList w) = Shows
+stage (Linking w) = Shows
+stage (Comparing w) = Shows
+stage Marking = Shows
+stage (Emptying a o) = Clears (call.Empty a) o
+stage (EmptyingAll o) = Clears call.EmptyAll o
+stage Forgetting = Drops
+stage SyncingForgotten = Knows
+stage (Over o) = Says o
+
+abbrev pub At : Job → List Entry → List Entry → Order → List Entry → Entry → List Attempt → Stage → Type 0
+At job durable all o entries own begun Found = IsFront entries all
+At job durable all o entries own begun Noted = IsFront entries all × AreBegun (lines_of entries) (begun_by own.lines)
+At job durable all o entries own begun Makes = IsFront entries durable × IsDecided job entries own
+At job durable all o entries own begun Knows = IsFront entries durable
+At job durable all o entries own begun (Opens a) = IsFront entries durable × AreBegun (lines_of entries) (a ∷ begun)
+At job durable all o entries own begun Shows = IsFront entries durable × (is_publishable job (lines_of entries) ≡ true)
+At job durable all o entries own begun Drops = IsFront entries durable × (is_published (lines_of entries) ≡ true)
+At job durable all o entries own begun (Says end) = IsSo job durable o end
+At job durable all o entries own begun (Clears x end) = IsSo job durable o end × Permits job durable x
+
+-- an outcome that says nothing of an attempt
+abbrev pub is_plain : Outcome → Bool
+is_plain (outcome.Stands st) = false
+is_plain (outcome.Started a) = false
+is_plain _ = true
+
+abbrev pub IsPlain : Option Outcome → Type 0
+IsPlain None = Unit {0}
+IsPlain (Some o) = is_plain o ≡ true
+
+pub record Fits (wanted is : Job) (host : Host) (origin : Origin) (found : Option Outcome) : Type 0 where
+  pub job : is ≡ wanted
+  pub boot : origin.boot ≡ host.boot
+  pub amiss : IsPlain found
+
+pub record Amid (job : Job) (durable all : List Entry) (c : Command) : Type 0 where
+  pub fits : Fits job c.job c.host c.origin c.amiss
+  pub here : At c.job durable all c.order c.entries (own_entry c) c.begun (stage c.phase)
+
+abbrev pub AmidAny : Job → List Entry → List Entry → Option Command → Type 0
+AmidAny job durable all None = Unit {0}
+AmidAny job durable all (Some c) = Amid job durable all c
+
+-- ---- all
+
+pub record Holds (s : Setting) (w : World) (durable : List Entry) (last : Option Entry) : Type 0 where
+  pub log : IsLog w.disk durable last
+  pub decided : AreDecided s.job [] (with_last durable last)
+  pub amid : (k : ℕ) → AmidAny s.job durable (with_last durable last) (w.running k)
+  pub allowed : (x : Call) → IsAmong x w.calls → Permits s.job durable x
+  pub said : (a : Attempt) (st : Standing) → HasSaid w.said a st → Stood s.job durable a st
+  pub started : (a : Attempt) → HasSaidStart w.said a → Permits s.job durable (call.MakeWork a)

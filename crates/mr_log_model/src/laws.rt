@@ -1,0 +1,12 @@
+//! Laws of an output directory with a log of names: these functions do nothing.
+ghost use Rattle.mr_log_model.specs.Promises.{DecisionsStay};
+
+/// The entries of the log are durable, but for one at the end at most. A durable entry stays. Each was decided from exactly
+/// the entries before it. Of whom a command said that it won, it is its task's recorded winner from then on; of whom one
+/// said that it lost, it never is; an attempt that was said to be begun is recorded. Nothing is made visible unless the job
+/// may be published by durable entries, and so for good: under hold, not before that was decided. Nothing that an attempt
+/// left is removed unless it can't win any more, or the job is published for good; so too the log. A job that was ended as
+/// failed is never published, and the other way round.
+pub fn decisions_stay()
+    ensures { DecisionsStay }
+{}

@@ -1,0 +1,25 @@
+//! Runs of any number of commands at once over a log of names, with kills and power cuts, and what each of them keeps.
+//!
+//! # What is proved
+//!
+//! `decisions_stay`: of any list of moves from what an honest `begin` left, and of any more moves after it. A move is a
+//! command that begins, an honest answer to the call of any command that is under way, its end, its end by a kill after
+//! any of its calls, or a power cut, which ends all commands. No lock is among the premises: entries are exclusive names.
+//!
+//! What commands make and remove is promised by their calls: none is made that durable entries do not allow for good.
+//! Which files are behind the names is not said: all calls but those of the log may be answered anything.
+//!
+//! Not claimed: that a command ends, and time; a disk whose power is cut while the commands go on (a server's).
+//!
+//! # The proofs
+//!
+//! A phase has a stage (`proofs/Invariant.antt`): what the command knows. A front of what is durable, and one of all
+//! entries, stay so whatever others do: one lemma (`amid-stays`) serves all moves of others. Who finds no name right after
+//! a durable front knows all entries (`ends-here`): so a put that is made follows exactly what it was decided from. What
+//! was said or made is carried along as a durable front that says so (`Stood`, `Permits`). That it says so for good is
+//! asked once, at the end, of the laws of mr_log_standing.
+#![tactic(auto)]
+
+mod laws;
+
+pub use laws::decisions_stay;
