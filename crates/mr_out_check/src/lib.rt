@@ -11,7 +11,8 @@
 //! - **[`look`]** reads a listing to its end, and answers what was seen exactly where the text is a listing, and the number of the first line
 //!   that is none. It says so of every reader whose bytes are known.
 //! - **[`yes_means_marked`]**, a law: whatever was listed, and whatever is told, the answer is `Yes` only where the empty file `_SUCCESS` was listed
-//!   in the directory itself, nothing beneath `_temporary` was, and each part file of the tasks that are told was.
+//!   in the directory itself. **[`yes_means_met`]**: and only where each premise is met, as that nothing beneath `_temporary` was listed, and each part
+//!   file of the tasks that are told was.
 //! - Only tested: the texts of faults, and that calls succeed with ample memory.
 #![tactic(auto)]
 

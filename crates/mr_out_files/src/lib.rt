@@ -3,9 +3,9 @@
 //! # What is proved
 //!
 //! - Each function is safe, and returns (`lock` waits for whoever holds the lock).
-//! - `steps` are what `begin` makes, in order. Wherever these are stopped, and whatever a power cut leaves: where the
-//!   directory is there, it is whole (`directories_begin_whole`), and once all are made, it stays
-//!   (`begun_directories_stay`).
+//! - Of the list `steps`: wherever these are stopped, and whatever a power cut leaves, the directory is whole where it is
+//!   there (`directories_begin_whole`), and once all are made, it stays (`begun_directories_stay`). That `begin` makes
+//!   just these, in order, is read in the code.
 //! - `Directory::perform` notes its call with the answer that it gives (`calls_of`). Nothing else notes one. Where the call
 //!   failed, `trouble` tells a fault that names a path of this call, or a refusal that it may meet (`IsTroubleOf`). A file's
 //!   sync is answered `Failed` where a sync failed, and for nothing else.

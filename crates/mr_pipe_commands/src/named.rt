@@ -12,7 +12,7 @@ use std::alloc::Global;
 use std::io::Write;
 
 /// Judges the trace that an input has, all of it, and answers the exit status. Says what failed.
-#[tactic(auto, using(crate::proofs::Judging::judges, crate::proofs::Judging::refused))]
+#[tactic(auto, using(crate::proofs::Judging::judges))]
 pub(crate) fn judge<I: Inputs, W: Write, E: Write>(
     alloc: Global,
     inputs: &I,
