@@ -1,2 +1,5 @@
--- The entries of a log, and what they record.
+-- The entries of a log, what they record, and their texts.
 pub mod Recorded
+pub mod Numerals
+pub mod Texts
+pub mod Histories

@@ -5,8 +5,8 @@ use crate::line::Line;
 use std::alloc::{AllocError, Global};
 use std::marker::Model;
 
-/// Where an entry came from: by its id a command knows its own entry, where a disk answers that the name of the next one is
-/// taken by what it made itself.
+/// Where an entry came from: by its id a command knows its own entry, where a disk answers that the
+/// name of the next one is taken by what it made itself.
 #[derive(Clone, Copy, Debug, PartialEq, Eq)]
 pub struct Origin {
     /// The boot of the machine in which it was put, in its short form.
