@@ -2,6 +2,8 @@
 -- and of fsync of a folder.
 use Rattle.std.specs.Prelude.{◌≡◌, ℕ, suc, ◌==◌, List, [], ◌∷◌, if◌then◌else◌}
 use Rattle.mr_log_entries.specs.declared.entry.Entry.{Entry}
+use Rattle.mr_log_disk.specs.declared.place.Place.{Place}
+use Rattle.mr_log_disk.specs.Names.{Moments}
 
 -- the name of an entry
 pub data LogName : Type 0 where
@@ -15,6 +17,8 @@ pub data LogName : Type 0 where
 pub record Disk : Type 0 where
   -- the names of the entries, by number, from 0
   pub log : ℕ → LogName
+  -- the visible names
+  pub names : Place → Moments
 
 abbrev pub IsThere : Entry → LogName → Type 0
 IsThere e Absent = ⊥

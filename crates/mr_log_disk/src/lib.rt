@@ -1,5 +1,5 @@
 //! The calls that a command makes of an output directory with a log of names, their answers, and the log as its disk
-//! keeps it.
+//! keeps it, and the visible names.
 //!
 //! # What is defined
 //!
@@ -9,7 +9,12 @@
 //! that failed was made or not. A reading may miss the newest entries, but none between others. A power cut leaves all
 //! entries that are durable, and any of the others (`IsCut`).
 //!
-//! Of all other names nothing is said here: their calls leave the log as it is, and any answer to them is honest.
+//! A visible name is made where nothing stands. Of it the disk keeps what stood there at each moment since its folder was
+//! synced, the newest first: a power cut leaves any one of these. So a name whose folder was just synced is the same before
+//! a cut and after it.
+//!
+//! Of all other names nothing is said here: their calls leave the log and the visible names as they are, and any answer to
+//! them is honest.
 #![tactic(auto)]
 
 mod answer;

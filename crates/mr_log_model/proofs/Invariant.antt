@@ -1,11 +1,17 @@
 -- What holds after every move: of the log, of each command that is under way, and of what was said.
-use Rattle.std.proofs.Common.{◌≡◌, ℕ, Bool, true, false, List, [], ◌∷◌, ◌++◌, Option, Some, None}
+use Rattle.std.proofs.Common.{◌≡◌, ◌⊎◌, ℕ, Bool, true, false, List, [], ◌∷◌, Option, Some, None}
 use Rattle.std.specs.List.{list_any}
 use Rattle.mr_ids.specs.Attempt.{Attempt}
 use Rattle.mr_log_entries.specs.declared.line.Line.{Line}
 use Rattle.mr_log_entries.specs.declared.entry.Entry.{Entry}
 use Rattle.mr_log_entries.specs.declared.entry.Origin.{Origin}
 use Rattle.mr_log_entries.specs.Recorded.{lines_of}
+use Rattle.mr_log_entries.specs.declared.line.Handed.TheVariants as handed
+use Rattle.mr_log_disk.specs.declared.place.Place.{Place}
+use Rattle.mr_log_disk.specs.declared.place.Place.TheVariants.{Marker}
+use Rattle.mr_log_disk.specs.declared.place.Folder.TheVariants as folder
+use Rattle.mr_log_disk.specs.Names.{IsVisible, Moments}
+use Rattle.mr_log_standing.specs.declared.standing.Win.{Win}
 use Rattle.mr_log_disk.specs.declared.call.Call.{Call}
 use Rattle.mr_log_disk.specs.declared.call.Call.TheVariants as call
 use Rattle.mr_log_standing.specs.declared.job.Job.{Job}
@@ -19,7 +25,12 @@ use Rattle.mr_log_steps.specs.declared.phase.Phase.{Phase}
 use Rattle.mr_log_steps.specs.declared.phase.Phase.TheVariants.{Reading, SyncingLog, Putting, SyncingPut, ReadingOn, MakingWork, Claiming, TakingNote, ListingKept, HandingIn, DroppingNote, SyncingKept, ReadingList, Linking, Comparing, Marking, Emptying, EmptyingAll, Forgetting, SyncingForgotten, Over}
 use Rattle.mr_log_steps.specs.Commands.{Command, own_entry}
 use Rattle.mr_log_steps.specs.Turns.{begun_by}
-use Rattle.mr_log_model.specs.Worlds.{Setting, Saying, World}
+use Rattle.mr_log_steps.specs.Lists.{marking}
+use Rattle.mr_log_steps.specs.declared.phase.Step.{Step}
+use Rattle.mr_log_steps.specs.declared.phase.Step.TheVariants as step
+use Rattle.mr_log_model.specs.Worlds.{Setting, World}
+use Rattle.mr_log_model.proofs.Names.{Every, IfThere}
+use Rattle.mr_log_model.proofs.Steps.{Progress, ToShow, AllShown}
 use Rattle.mr_log_model.specs.Promises.{IsLog, with_last, IsFront, IsDecided, AreDecided, IsAbout, HasSaid, HasSaidStart, IsAllowed, IsAmong}
 
 -- ---- what is said, and what is made
@@ -118,20 +129,48 @@ pub record Fits (wanted is : Job) (host : Host) (origin : Origin) (found : Optio
   pub boot : origin.boot ≡ host.boot
   pub amiss : IsPlain found
 
-pub record Amid (job : Job) (durable all : List Entry) (c : Command) : Type 0 where
-  pub fits : Fits job c.job c.host c.origin c.amiss
-  pub here : At c.job durable all c.order c.entries (own_entry c) c.begun (stage c.phase)
+-- ---- what a command has published
 
-abbrev pub AmidAny : Job → List Entry → List Entry → Option Command → Type 0
-AmidAny job durable all None = Unit {0}
-AmidAny job durable all (Some c) = Amid job durable all c
+-- what is left to be done once the winners' names are durable, and once the marker is there
+abbrev pub marker_next : List Step
+marker_next = step.LinkMarker ∷ step.SyncFolder folder.Output ∷ []
+
+abbrev pub marker_last : List Step
+marker_last = step.SyncFolder folder.Output ∷ []
+
+abbrev pub MarkAt : Setting → List Entry → (Place → Moments) → List Step → Type 0
+MarkAt s durable v todo = ((todo ≡ marking) × ToShow s durable v []) ⊎ (((todo ≡ marker_next) × AllShown s durable v) ⊎ ((todo ≡ marker_last) × AllShown s durable v))
+
+abbrev pub SeesAt : Setting → List Entry → (Place → Moments) → List Win → List Step → Phase → Type 0
+SeesAt s durable v left todo (ReadingList w) = ToShow s durable v (w ∷ left) × ((bytes : ℕ) × (w.handed ≡ handed.Folder bytes))
+SeesAt s durable v left todo (Linking w) = ToShow s durable v (w ∷ left) × Progress s v w todo
+SeesAt s durable v left todo (Comparing w) = ToShow s durable v (w ∷ left) × Progress s v w todo
+SeesAt s durable v left todo Marking = MarkAt s durable v todo
+SeesAt s durable v left todo _ = Unit {0}
+
+pub record Amid (s : Setting) (v : Place → Moments) (durable all : List Entry) (c : Command) : Type 0 where
+  pub fits : Fits s.job c.job c.host c.origin c.amiss
+  pub here : At c.job durable all c.order c.entries (own_entry c) c.begun (stage c.phase)
+  pub sees : SeesAt s durable v c.left c.todo c.phase
+
+abbrev pub AmidAny : Setting → (Place → Moments) → List Entry → List Entry → Option Command → Type 0
+AmidAny s v durable all None = Unit {0}
+AmidAny s v durable all (Some c) = Amid s v durable all c
+
+-- the job may be published, by durable entries
+pub record MayShow (job : Job) (durable : List Entry) : Type 0 where
+  pub by : List Entry
+  pub front : IsFront by durable
+  pub may : is_publishable job (lines_of by) ≡ true
 
 -- ---- all
 
 pub record Holds (s : Setting) (w : World) (durable : List Entry) (last : Option Entry) : Type 0 where
   pub log : IsLog w.disk durable last
   pub decided : AreDecided s.job [] (with_last durable last)
-  pub amid : (k : ℕ) → AmidAny s.job durable (with_last durable last) (w.running k)
+  pub amid : (k : ℕ) → AmidAny s w.disk.names durable (with_last durable last) (w.running k)
+  pub early : (p : Place) → IsVisible p → Every (IfThere (MayShow s.job durable)) (w.disk.names p)
+  pub marker : Every (IfThere (AllShown s durable w.disk.names)) (w.disk.names Marker)
   pub allowed : (x : Call) → IsAmong x w.calls → Permits s.job durable x
   pub said : (a : Attempt) (st : Standing) → HasSaid w.said a st → Stood s.job durable a st
   pub started : (a : Attempt) → HasSaidStart w.said a → Permits s.job durable (call.MakeWork a)

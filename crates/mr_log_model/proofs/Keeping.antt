@@ -8,16 +8,21 @@ use Rattle.mr_log_entries.specs.declared.entry.Entry.{Entry}
 use Rattle.mr_log_entries.specs.Recorded.{lines_of}
 use Rattle.mr_log_disk.specs.declared.call.Call.{Call}
 use Rattle.mr_log_disk.specs.declared.call.Call.TheVariants as call
+use Rattle.mr_log_disk.specs.declared.place.Place.{Place}
+use Rattle.mr_log_disk.specs.declared.place.Place.TheVariants.{Marker}
+use Rattle.mr_log_disk.specs.declared.place.Node.{Node}
+use Rattle.mr_log_disk.specs.Names.{IsVisible, Moments}
+use Rattle.mr_log_disk.specs.Calls.{seen}
 use Rattle.mr_log_disk.specs.Log.{Disk}
-use Rattle.mr_log_disk.specs.Cuts.{IsCut}
 use Rattle.mr_log_disk.specs.declared.answer.Answer.{Answer}
+use Rattle.mr_log_standing.specs.declared.standing.Win.{Win}
 use Rattle.mr_log_standing.specs.declared.job.Job.{Job}
 use Rattle.mr_log_standing.specs.declared.order.Order.{Order}
 use Rattle.mr_log_standing.specs.declared.order.Outcome.{Outcome}
 use Rattle.mr_log_standing.specs.declared.order.Outcome.TheVariants as outcome
 use Rattle.mr_log_standing.specs.declared.standing.Standing.{Standing}
 use Rattle.mr_log_standing.specs.declared.standing.Standing.TheVariants as stands
-use Rattle.mr_log_standing.specs.Standing.{is_of_job, winner_of, against, unwon, standing, is_over, is_published, is_publishable}
+use Rattle.mr_log_standing.specs.Standing.{is_of_job, task_of, win_of, winner_of, against, unwon, standing, is_over, is_published, is_publishable}
 use Rattle.mr_log_standing.specs.Lawful.{are_lawful}
 use Rattle.mr_log_standing.specs.Host.{Host}
 use Rattle.mr_log_entries.specs.declared.entry.Origin.{Origin}
@@ -28,15 +33,20 @@ use Rattle.mr_log_steps.specs.declared.phase.Phase.{Phase}
 use Rattle.mr_log_steps.specs.declared.phase.Phase.TheVariants.{Over}
 use Rattle.mr_log_steps.specs.Commands.{Command, own_entry, opening, next_call, outcome_in}
 use Rattle.mr_log_steps.specs.Turns.{heard}
-use Rattle.mr_log_model.specs.Worlds.{Setting, Saying, World, begun, with_command}
+use Rattle.mr_log_model.specs.Worlds.{Setting, World, begun, with_command}
 use Rattle.mr_log_model.specs.Runs.{Move, Starts, Answers, Ends, Stops, Cuts, heard_by, with_call, called_by, ended, ends_with, happens, MayAnswer, MayHear, May, after, IsRun}
-use Rattle.mr_log_model.specs.Promises.{IsLog, with_last, IsFront, AreDecided, IsAbout, HasSaid, HasSaidLoss, HasSaidStart, IsAllowed, IsAmong, Promises, DecisionsStay}
+use Rattle.mr_log_model.specs.Visible.{IsOutputOf, IsWhole, OutputsStay}
+use Rattle.mr_log_model.specs.Visible as visible
+use Rattle.mr_log_model.specs.Promises.{with_last, IsFront, AreDecided, IsAbout, HasSaid, HasSaidLoss, HasSaidStart, IsAllowed, IsAmong, Promises, DecisionsStay}
 use Rattle.mr_log_model.proofs.Fronts.{front-self, front-none, front-trans, front-last, lines-more}
-use Rattle.mr_log_model.proofs.Logs.{Left, cut-log}
+use Rattle.mr_log_model.proofs.Logs.{cut-log}
 use Rattle.mr_log_model.proofs.Lawful.{decided-front, decided-rest, lawful, published-never-over, allowed-stays}
-use Rattle.mr_log_model.proofs.Invariant as inv
-use Rattle.mr_log_model.proofs.Invariant.{Stood, Permits, IsSo, stage, At, Amid, AmidAny, Holds}
-use Rattle.mr_log_model.proofs.Moving.{stood-stays, amid-stays, calls-stay, PermitsAny, permitted, Turned, answered}
+use Rattle.mr_log_model.proofs.Invariant.{Stood, Permits, IsSo, MayShow, stage, At, Amid, AmidAny, Holds}
+use Rattle.mr_log_model.proofs.Moving.{stood-stays, amid-stays, calls-stay, PermitsAny, permitted, Turned}
+use Rattle.mr_log_model.proofs.Names.{IsNode, Every, every-map, every-left, every-turn, turns, IsTarget, IfThere, if-there-map, lasts-there}
+use Rattle.mr_log_model.proofs.Steps.{Keeps, KeepsLasting, AllShown, Whole, output-visible, all-shown-stays}
+use Rattle.mr_log_model.proofs.Answering.{keeps-any, answered}
+use Rattle.mr_log_model.proofs.Targets.{MarkerAny, marker-made}
 
 -- ---- a move
 
@@ -45,15 +55,16 @@ pub record Onward (s : Setting) (w : World) (durable : List Entry) (v : World) :
   pub last_now : Option Entry
   pub holds : Holds s v durable_now last_now
   pub front : IsFront durable durable_now
+  pub lasting : KeepsLasting w.disk.names v.disk.names
   pub calls : (x : Call) → IsAmong x w.calls → IsAmong x v.calls
   pub said : (a : Attempt) (st : Standing) → HasSaid w.said a st → HasSaid v.said a st
   pub started : (a : Attempt) → HasSaidStart w.said a → HasSaidStart v.said a
 
 -- one command is another now
-one-amid : (job : Job) (durable all : List Entry) (k : ℕ) (c : Option Command) (running : ℕ → Option Command) → AmidAny job durable all c → ((i : ℕ) → AmidAny job durable all (running i)) → (i : ℕ) → AmidAny job durable all (with_command k c running i)
-one-amid job durable all k c running h g i = by (i == k)
+one-amid : (s : Setting) (v : Place → Moments) (durable all : List Entry) (k : ℕ) (c : Option Command) (running : ℕ → Option Command) → AmidAny s v durable all c → ((i : ℕ) → AmidAny s v durable all (running i)) → (i : ℕ) → AmidAny s v durable all (with_command k c running i)
+one-amid s v durable all k c running h g i = by (i == k)
   where
-    by : (b : Bool) → AmidAny job durable all (cond b c (running i))
+    by : (b : Bool) → AmidAny s v durable all (cond b c (running i))
     by true = h
     by false = g i
 
@@ -65,12 +76,15 @@ starts s w durable last h k o host origin m = record {
   holds = record {
     log = h.log;
     decided = h.decided;
-    amid = one-amid s.job durable (with_last durable last) k (Some (opening o s.job s.folders host origin)) w.running (record { fits = record { job = refl; boot = m.1; amiss = tt }; here = front-none durable }) h.amid;
+    amid = one-amid s w.disk.names durable (with_last durable last) k (Some (opening o s.job s.folders host origin)) w.running (record { fits = record { job = refl; boot = m.1; amiss = tt }; here = front-none durable; sees = tt }) h.amid;
+    early = h.early;
+    marker = h.marker;
     allowed = h.allowed;
     said = h.said;
     started = h.started;
   };
   front = front-self durable;
+  lasting = λ p v n l. l;
   calls = λ x i. i;
   said = λ a st t. t;
   started = λ a t. t;
@@ -80,7 +94,7 @@ answers : (s : Setting) (w : World) (durable : List Entry) (last : Option Entry)
 unfolding May happens
 answers s w durable last h k answer left m = by (w.running k) (h.amid k) m
   where
-    made : (c : Command) → Amid s.job durable (with_last durable last) c → PermitsAny s.job durable (next_call c)
+    made : (c : Command) → Amid s w.disk.names durable (with_last durable last) c → PermitsAny s.job durable (next_call c)
     made c a = let P : Job → Type 0 = λ j. PermitsAny j durable (next_call c) in subst P a.fits.job (permitted c.job durable (with_last durable last) c c.phase a.here)
 
     among : (y : Option Call) → PermitsAny s.job durable y → (x : Call) → IsAmong x (with_call y w.calls) → Permits s.job durable x
@@ -88,27 +102,50 @@ answers s w durable last h k answer left m = by (w.running k) (h.amid k) m
     among (Some y) p x (inl e) = let P : Call → Type 0 = λ z. Permits s.job durable z in subst P e p
     among (Some y) p x (inr i) = h.allowed x i
 
+    -- a name that the call made was allowed
+    may : (x : Call) (p : Place) → Permits s.job durable x → IsTarget x p → MayShow s.job durable
+    may (call.Link from to) p q t = record { by = q.by; front = q.front; may = q.allows }
+    may (call.MakeFolder r) p q t = record { by = q.by; front = q.front; may = q.allows }
+    may call.LinkMarker p q t = record { by = q.by; front = q.front; may = q.allows }
+    may _ p q t = absurd t
+
+    early_now : (y : Option Call) → PermitsAny s.job durable y → (now : List Entry) → IsFront durable now → MayAnswer s w.disk y answer left → (p : Place) → IsVisible p → Every (IfThere (MayShow s.job now)) (left.names p)
+    early_now None q now f e p v = absurd e
+    early_now (Some x) q now f e p v =
+        every-map (IfThere (MayShow s.job durable)) (IfThere (MayShow s.job now)) (left.names p) (if-there-map (MayShow s.job durable) (MayShow s.job now) (λ z. record { by = z.by; front = front-trans z.by durable now z.front f; may = z.may }))
+        (every-turn (IfThere (MayShow s.job durable)) x p (w.disk.names p) (left.names p) (turns w.disk left x answer e.0.names p v) (λ t n. may x p q t) (h.early p v))
+
+    marker_now : (y : Option Call) → MarkerAny s durable w.disk.names y → (now : List Entry) → IsFront durable now → Keeps w.disk.names left.names → MayAnswer s w.disk y answer left → Every (IfThere (AllShown s now left.names)) (left.names Marker)
+    marker_now None q now f ks e = absurd e
+    marker_now (Some x) q now f ks e =
+        every-turn (IfThere (AllShown s now left.names)) x Marker (w.disk.names Marker) (left.names Marker) (turns w.disk left x answer e.0.names Marker tt) (λ t n. all-shown-stays s durable now w.disk.names left.names f ks.lasts (q t))
+        (every-map (IfThere (AllShown s durable w.disk.names)) (IfThere (AllShown s now left.names)) (w.disk.names Marker) (if-there-map (AllShown s durable w.disk.names) (AllShown s now left.names) (all-shown-stays s durable now w.disk.names left.names f ks.lasts)) h.marker)
+
     more : (y : Option Call) (x : Call) → IsAmong x w.calls → IsAmong x (with_call y w.calls)
     more None x i = i
     more (Some y) x i = inr i
 
-    by : (c : Option Command) → AmidAny s.job durable (with_last durable last) c → MayHear w.disk c answer left → Onward s w durable (record w { disk = left; running = with_command k (heard_by c answer) w.running; calls = called_by c w.calls })
+    by : (c : Option Command) → AmidAny s w.disk.names durable (with_last durable last) c → MayHear s w.disk c answer left → Onward s w durable (record w { disk = left; running = with_command k (heard_by c answer) w.running; calls = called_by c w.calls })
     by None a m = absurd m
     by (Some c) a m =
-        let t : Turned s.job durable last left (heard c answer) = answered s.job durable last w.disk left c c.phase (h.log, h.decided, a.fits) a.here answer m in
+        let t : Turned s durable last left (heard c answer) = answered s durable last w.disk left c c.phase (h.log, h.decided, a.fits) a.here a.sees answer m in
+        let ks : Keeps w.disk.names left.names = keeps-any s w.disk left (next_call c) answer m in
         record {
           durable_now = t.durable_now;
           last_now = t.last_now;
           holds = record {
             log = t.log;
             decided = t.decided;
-            amid = one-amid s.job t.durable_now (with_last t.durable_now t.last_now) k (Some (heard c answer)) w.running t.amid
-                (λ i. amid-stays s.job durable (with_last durable last) t.durable_now (with_last t.durable_now t.last_now) (w.running i) t.front t.all (h.amid i));
+            amid = one-amid s left.names t.durable_now (with_last t.durable_now t.last_now) k (Some (heard c answer)) w.running t.amid
+                (λ i. amid-stays s w.disk.names left.names durable (with_last durable last) t.durable_now (with_last t.durable_now t.last_now) (w.running i) t.front t.all ks (h.amid i));
+            early = early_now (next_call c) (made c a) t.durable_now t.front m;
+            marker = marker_now (next_call c) (marker-made s durable w.disk.names c c.phase a.sees) t.durable_now t.front ks m;
             allowed = λ x i. calls-stay s.job durable t.durable_now x t.front (among (next_call c) (made c a) x i);
             said = λ b st x. stood-stays s.job durable t.durable_now b st t.front (h.said b st x);
             started = λ b x. calls-stay s.job durable t.durable_now (call.MakeWork b) t.front (h.started b x);
           };
           front = t.front;
+          lasting = ks.lasts;
           calls = λ x i. more (next_call c) x i;
           said = λ b st x. x;
           started = λ b x. x;
@@ -116,25 +153,28 @@ answers s w durable last h k answer left m = by (w.running k) (h.amid k) m
 
 -- nothing changed but which commands are under way
 still : (s : Setting) (w : World) (durable : List Entry) (last : Option Entry) → Holds s w durable last → Onward s w durable w
-still s w durable last h = record { durable_now = durable; last_now = last; holds = h; front = front-self durable; calls = λ x i. i; said = λ a st t. t; started = λ a t. t }
+still s w durable last h = record { durable_now = durable; last_now = last; holds = h; front = front-self durable; lasting = λ p v n l. l; calls = λ x i. i; said = λ a st t. t; started = λ a t. t }
 
 ends : (s : Setting) (w : World) (durable : List Entry) (last : Option Entry) → Holds s w durable last → (k : ℕ) → Onward s w durable (happens s w (Ends k))
 unfolding happens
 ends s w durable last h k = by (w.running k) (h.amid k)
   where
-    says : (c : Command) (o : Outcome) → Amid s.job durable (with_last durable last) c → IsSo c.job durable c.order o → Onward s w durable (ended w k c (Some o))
+    says : (c : Command) (o : Outcome) → Amid s w.disk.names durable (with_last durable last) c → IsSo c.job durable c.order o → Onward s w durable (ended w k c (Some o))
     says c o a so = record {
       durable_now = durable;
       last_now = last;
       holds = record {
         log = h.log;
         decided = h.decided;
-        amid = one-amid s.job durable (with_last durable last) k None w.running tt h.amid;
+        amid = one-amid s w.disk.names durable (with_last durable last) k None w.running tt h.amid;
+        early = h.early;
+        marker = h.marker;
         allowed = h.allowed;
         said = λ b st x. at b st x;
         started = λ b x. from b x;
       };
       front = front-self durable;
+      lasting = λ p v n l. l;
       calls = λ x i. i;
       said = λ b st x. inr x;
       started = λ b x. inr x;
@@ -148,11 +188,11 @@ ends s w durable last h k = by (w.running k) (h.amid k)
         at b st (inl x) = let P : Job → Type 0 = λ j. Stood j durable b st in subst P a.fits.job (so.stands b st x.0 x.1)
         at b st (inr x) = h.said b st x
 
-    over : (c : Command) (p : Phase) → Amid s.job durable (with_last durable last) c → At c.job durable (with_last durable last) c.order c.entries (own_entry c) c.begun (stage p) → Onward s w durable (ended w k c (outcome_in p))
+    over : (c : Command) (p : Phase) → Amid s w.disk.names durable (with_last durable last) c → At c.job durable (with_last durable last) c.order c.entries (own_entry c) c.begun (stage p) → Onward s w durable (ended w k c (outcome_in p))
     over c (Over o) a here = says c o a here
     over c _ a here = still s w durable last h
 
-    by : (c : Option Command) → AmidAny s.job durable (with_last durable last) c → Onward s w durable (ends_with w k c)
+    by : (c : Option Command) → AmidAny s w.disk.names durable (with_last durable last) c → Onward s w durable (ends_with w k c)
     by None a = still s w durable last h
     by (Some c) a = over c c.phase a a.here
 
@@ -161,8 +201,9 @@ unfolding happens
 stops s w durable last h k = record {
   durable_now = durable;
   last_now = last;
-  holds = record { log = h.log; decided = h.decided; amid = one-amid s.job durable (with_last durable last) k None w.running tt h.amid; allowed = h.allowed; said = h.said; started = h.started };
+  holds = record { log = h.log; decided = h.decided; amid = one-amid s w.disk.names durable (with_last durable last) k None w.running tt h.amid; early = h.early; marker = h.marker; allowed = h.allowed; said = h.said; started = h.started };
   front = front-self durable;
+  lasting = λ p v n l. l;
   calls = λ x i. i;
   said = λ a st t. t;
   started = λ a t. t;
@@ -172,6 +213,7 @@ cuts : (s : Setting) (w : World) (durable : List Entry) (last : Option Entry) �
 unfolding May happens
 cuts s w durable last h left m =
     let x = cut-log durable last w.disk left h.log m in
+    let lasting : KeepsLasting w.disk.names left.names = λ p v n l. every-left (IsNode n) (w.disk.names p) (left.names p) (m.names p v) l in
     let P : List Entry → Type 0 = λ es. AreDecided s.job [] es in
     record {
       durable_now = x.durable_now;
@@ -180,11 +222,16 @@ cuts s w durable last h left m =
         log = x.log;
         decided = decided-front s.job [] x.durable_now x.within.rest (subst P x.within.is h.decided);
         amid = λ i. tt;
+        early = λ p v. every-left (IfThere (MayShow s.job x.durable_now)) (w.disk.names p) (left.names p) (m.names p v)
+            (every-map (IfThere (MayShow s.job durable)) (IfThere (MayShow s.job x.durable_now)) (w.disk.names p) (if-there-map (MayShow s.job durable) (MayShow s.job x.durable_now) (λ z. record { by = z.by; front = front-trans z.by durable x.durable_now z.front x.front; may = z.may })) (h.early p v));
+        marker = every-left (IfThere (AllShown s x.durable_now left.names)) (w.disk.names Marker) (left.names Marker) (m.names Marker tt)
+            (every-map (IfThere (AllShown s durable w.disk.names)) (IfThere (AllShown s x.durable_now left.names)) (w.disk.names Marker) (if-there-map (AllShown s durable w.disk.names) (AllShown s x.durable_now left.names) (all-shown-stays s durable x.durable_now w.disk.names left.names x.front lasting)) h.marker);
         allowed = λ y i. calls-stay s.job durable x.durable_now y x.front (h.allowed y i);
         said = λ a st t. stood-stays s.job durable x.durable_now a st x.front (h.said a st t);
         started = λ a t. calls-stay s.job durable x.durable_now (call.MakeWork a) x.front (h.started a t);
       };
       front = x.front;
+      lasting = lasting;
       calls = λ y i. i;
       said = λ a st t. t;
       started = λ a t. t;
@@ -205,11 +252,11 @@ runs-on s [] w durable last h r = still s w durable last h
 runs-on s (m ∷ moves) w durable last h r =
     let one = moves-on s w durable last h m r.0 in
     let more = runs-on s moves (happens s w m) one.durable_now one.last_now one.holds r.1 in
-    record { durable_now = more.durable_now; last_now = more.last_now; holds = more.holds; front = front-trans durable one.durable_now more.durable_now one.front more.front; calls = λ x i. more.calls x (one.calls x i); said = λ a st t. more.said a st (one.said a st t); started = λ a t. more.started a (one.started a t) }
+    record { durable_now = more.durable_now; last_now = more.last_now; holds = more.holds; front = front-trans durable one.durable_now more.durable_now one.front more.front; lasting = λ p v n l. more.lasting p v n (one.lasting p v n l); calls = λ x i. more.calls x (one.calls x i); said = λ a st t. more.said a st (one.said a st t); started = λ a t. more.started a (one.started a t) }
 
 begun-holds : (s : Setting) → Holds s begun [] None
 unfolding AreDecided
-begun-holds s = record { log = record { names = λ n. refl }; decided = tt; amid = λ k. tt; allowed = λ x i. absurd i; said = λ a st t. absurd t; started = λ a t. absurd t }
+begun-holds s = record { log = record { names = λ n. refl }; decided = tt; amid = λ k. tt; early = λ p v. (tt, tt); marker = (tt, tt); allowed = λ x i. absurd i; said = λ a st t. absurd t; started = λ a t. absurd t }
 
 -- ---- what is promised
 
@@ -295,3 +342,45 @@ keeps s moves more r q =
     let first = runs-on s moves begun [] None (begun-holds s) r in
     let w = after s begun moves in
     promised s w (after s w more) first.durable_now first.last_now first.holds (runs-on s more w first.durable_now first.last_now first.holds q)
+
+-- ---- what is visible
+
+stands-there : (X : Type 0) (x : Option Node) → x ≢ None → IfThere X x → X
+stands-there X None h i = absurd (h refl)
+stands-there X (Some n) h i = i
+
+there-not-none : (x : Option Node) (n : Node) → x ≡ Some n → x ≢ None
+there-not-none x n e f = absurd (cc)
+
+whole-now : (s : Setting) (durable : List Entry) (d : Disk) (n : ℕ) → Whole s durable d.names n → IsWhole s durable d n
+whole-now s durable d n x = record { win = x.win; is = x.is; each = λ p o. let t = lasts-there (d.names p) (x.each p o) in there-not-none (seen d p) t.node t.now }
+
+same-win : (x : Option Win) (a b : Win) → x ≡ Some a → x ≡ Some b → a ≡ b
+same-win x a b e f = cc
+
+may-now : (job : Job) (durable all : List Entry) → IsFront durable all → AreDecided job [] all → MayShow job durable → is_publishable job (lines_of durable) ≡ true
+may-now job durable all f ds m = allowed-later job durable all f ds call.LinkMarker (record { by = m.by; front = m.front; allows = m.may })
+
+outputs : (s : Setting) (w v : World) (durable : List Entry) (last : Option Entry) → Holds s w durable last → Onward s w durable v → visible.Promises s w v
+outputs s w v durable last h o = record {
+  durable = durable;
+  last = last;
+  log = h.log;
+  early = λ p x e. may-now s.job durable (with_last durable last) (front-last durable last) h.decided (stands-there (MayShow s.job durable) (seen w.disk p) e (h.early p x).0);
+  whole = λ e n l. whole-now s durable w.disk n (stands-there (AllShown s durable w.disk.names) (seen w.disk Marker) e h.marker.0 n l);
+  stays = λ e n win l is p out. same n win (stands-there (AllShown s durable w.disk.names) (seen w.disk Marker) e h.marker.0 n l) is p out;
+}
+  where
+    same : (n : ℕ) (win : Win) → Whole s durable w.disk.names n → win_of durable (task_of s.job.id n) ≡ Some win → (p : Place) → IsOutputOf s win p → seen v.disk p ≡ seen w.disk p
+    same n win x is p out =
+        let P : Win → Type 0 = λ y. IsOutputOf s y p in
+        let own : IsOutputOf s x.win p = subst P (sym (same-win (win_of durable (task_of s.job.id n)) x.win win x.is is)) out in
+        let lasts = x.each p own in
+        let later : Every (IsNode lasts.node) (v.disk.names p) = o.lasting p (output-visible s x.win p own) lasts.node lasts.every in
+        later.0 ∙ sym lasts.every.0
+
+pub outputs-stay : OutputsStay
+outputs-stay s moves more r q =
+    let first = runs-on s moves begun [] None (begun-holds s) r in
+    let w = after s begun moves in
+    outputs s w (after s w more) first.durable_now first.last_now first.holds (runs-on s more w first.durable_now first.last_now first.holds q)

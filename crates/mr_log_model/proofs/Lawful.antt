@@ -1,6 +1,5 @@
 -- Logs whose entries were each decided from exactly those before them.
-use Rattle.std.proofs.Common.{◌≡◌, ◌⊎◌, inl, inr, ℕ, nat_lt, Bool, true, false, cond, not, ◌&&◌, ◌||◌, List, [], ◌∷◌, ◌++◌, length, take, map, Option, Some, None, refl, sym, ap, subst, ◌∙◌, append_assoc, append-nil, flat_map}
-use Rattle.std.specs.List.{list_any}
+use Rattle.std.proofs.Common.{◌≡◌, ◌⊎◌, inl, inr, ℕ, nat_lt, Bool, true, false, cond, not, ◌&&◌, ◌||◌, List, [], ◌∷◌, ◌++◌, length, map, Option, Some, None, refl, sym, ap, subst, ◌∙◌, append_assoc, append-nil, flat_map}
 use Rattle.std.proofs.lemmas.List.Folds.{list_any-append}
 use Rattle.mr_ids.specs.Attempt.{Attempt}
 use Rattle.mr_log_entries.specs.declared.line.Line.{Line}
@@ -14,7 +13,6 @@ use Rattle.mr_log_standing.specs.declared.order.Order.{Order}
 use Rattle.mr_log_standing.specs.declared.order.Order.TheVariants as order
 use Rattle.mr_log_standing.specs.declared.order.Outcome.{Outcome}
 use Rattle.mr_log_standing.specs.declared.order.Outcome.TheVariants as outcome
-use Rattle.mr_log_standing.specs.declared.standing.Standing.{Standing}
 use Rattle.mr_log_standing.specs.declared.decision.Decision.{Decision}
 use Rattle.mr_log_standing.specs.declared.decision.Decision.TheVariants.{Ends, Publishes, HandsIn, Puts, Begins, Forgets}
 use Rattle.mr_log_standing.specs.declared.decision.Conclusion.{Conclusion}

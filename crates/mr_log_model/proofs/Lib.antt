@@ -1,8 +1,12 @@
 pub mod Fronts
 pub mod Logs
 pub mod Lawful
+pub mod Names
+pub mod Steps
 pub mod Invariant
 pub mod Deciding
 pub mod Hearing
 pub mod Moving
+pub mod Targets
+pub mod Answering
 pub mod Keeping

@@ -1,9 +1,9 @@
 -- What a call, or a power cut, leaves of a log: its entries are durable, but for one at the end at most.
-use Rattle.std.proofs.Common.{◌≡◌, ◌≢◌, ◌⊎◌, inl, inr, ◌==◌, ℕ, zero, suc, Bool, true, false, cond, List, [], ◌∷◌, ◌++◌, length, Option, Some, None, refl, sym, ap, subst, ◌∙◌, append_assoc, append-nil, true≢false}
+use Rattle.std.proofs.Common.{◌≡◌, ◌⊎◌, inl, inr, ◌==◌, ℕ, zero, suc, Bool, true, false, cond, List, [], ◌∷◌, ◌++◌, length, Option, Some, None, refl, sym, ap, subst, ◌∙◌, append_assoc, append-nil, true≢false}
 use Rattle.std.proofs.lemmas.Bool.{eqb-true, eq-eqb}
 use Rattle.mr_log_entries.specs.declared.entry.Entry.{Entry}
 use Rattle.mr_log_disk.specs.Log.{LogName, Absent, Fresh, Durable, Disk, IsThere, AreThere, with_entry, settled}
-use Rattle.mr_log_disk.specs.Calls.{LogStays, IsMade, LogIsSynced, LogMayBeSynced}
+use Rattle.mr_log_disk.specs.Calls.{LogStays, LogIsSynced, LogMayBeSynced}
 use Rattle.mr_log_disk.specs.Cuts.{IsLeft, IsCut}
 use Rattle.mr_log_model.specs.Promises.{name_at, IsLog, with_last, IsFront}
 use Rattle.mr_log_model.proofs.Fronts.{front-self, front-more, front-last}
@@ -184,7 +184,7 @@ left-other (y ∷ es) e zero x h l = l
 left-other (y ∷ es) e (suc n) x h l = left-other es e n x (λ q. h (ap suc q)) l
 
 pub cut-log : (durable : List Entry) (last : Option Entry) (d new : Disk) → IsLog d durable last → IsCut d new → Left durable last new
-cut-log durable last d new l c = by last (λ n. let P : LogName → Type 0 = λ x. IsLeft x (new.log n) in subst P (l.names n) (c n))
+cut-log durable last d new l c = by last (λ n. let P : LogName → Type 0 = λ x. IsLeft x (new.log n) in subst P (l.names n) (c.log n))
   where
     by : (o : Option Entry) → ((n : ℕ) → IsLeft (name_at durable o n) (new.log n)) → Left durable o new
     by None h = record { durable_now = durable; log = record { names = λ n. left-none durable n (new.log n) (h n) }; front = front-self durable; within = front-self durable }

@@ -2,3 +2,4 @@
 pub mod Worlds
 pub mod Runs
 pub mod Promises
+pub mod Visible

@@ -15,7 +15,6 @@ use Rattle.mr_log_standing.specs.declared.standing.Standing.{Standing}
 use Rattle.mr_log_standing.specs.declared.standing.Standing.TheVariants.{Won, Beaten, GivenUp, JobOver}
 use Rattle.mr_log_standing.specs.declared.order.Order.{Order}
 use Rattle.mr_log_standing.specs.declared.order.Order.TheVariants as order
-use Rattle.mr_log_standing.specs.declared.order.Outcome.{Outcome}
 use Rattle.mr_log_standing.specs.declared.order.Outcome.TheVariants as outcome
 use Rattle.mr_log_standing.specs.declared.decision.Conclusion.{Conclusion}
 use Rattle.mr_log_standing.specs.declared.decision.Decision.{Decision}

@@ -1,8 +1,13 @@
 -- What may happen to an output directory, one move after another. Any number of commands are under way at once, and each may be answered next. Our own.
-use Rattle.std.specs.Prelude.{◌≡◌, ℕ, List, [], ◌∷◌, Option, Some, None}
+use Rattle.std.specs.Prelude.{◌≡◌, ◌⊎◌, ℕ, List, [], ◌∷◌, Option, Some, None}
+use Rattle.mr_ids.specs.Attempt.{Attempt}
 use Rattle.mr_log_entries.specs.declared.entry.Origin.{Origin}
 use Rattle.mr_log_disk.specs.declared.call.Call.{Call}
+use Rattle.mr_log_disk.specs.declared.call.Call.TheVariants.{ReadList}
+use Rattle.mr_log_disk.specs.declared.place.Item.{Item}
+use Rattle.mr_log_disk.specs.declared.place.Node.TheVariants as node
 use Rattle.mr_log_disk.specs.declared.answer.Answer.{Answer}
+use Rattle.mr_log_disk.specs.declared.answer.Answer.TheVariants.{Listed}
 use Rattle.mr_log_disk.specs.Log.{Disk}
 use Rattle.mr_log_disk.specs.Calls.{Effect}
 use Rattle.mr_log_disk.specs.Cuts.{IsCut}
@@ -52,19 +57,38 @@ happens s w (Ends k) = ends_with w k (w.running k)
 happens s w (Stops k) = record w { running = with_command k None w.running }
 happens s w (Cuts left) = record w { disk = left; running = λ k. None }
 
--- the disk may answer this call so, and be that one then
-abbrev pub MayAnswer : Disk → Option Call → Answer → Disk → Type 0
-MayAnswer d None answer left = ⊥
-MayAnswer d (Some call) answer left = Effect d call answer left
+-- a folder that is listed, or the attempt's own
+abbrev pub IsListedFolder : ℕ → List Item → Type 0
+IsListedFolder f [] = f ≡ 0
+IsListedFolder f (i ∷ more) = ((i.node ≡ node.Folder) × (i.item ≡ f)) ⊎ IsListedFolder f more
 
-abbrev pub MayHear : Disk → Option Command → Answer → Disk → Type 0
-MayHear d None answer left = ⊥
-MayHear d (Some c) answer left = MayAnswer d (next_call c) answer left
+-- each of these stands in one
+abbrev pub StandInFolders : List Item → List Item → Type 0
+StandInFolders all [] = Unit {0}
+StandInFolders all (i ∷ more) = IsListedFolder i.folder all × StandInFolders all more
+
+-- a list that is read is the one that was written under its name
+abbrev pub TellsList : Setting → Attempt → ℕ → Answer → Type 0
+TellsList s a id (Listed items) = (items ≡ s.lists a id) × StandInFolders items items
+TellsList s a id answer = Unit {0}
+
+abbrev pub TellsLists : Setting → Call → Answer → Type 0
+TellsLists s (ReadList a id) answer = TellsList s a id answer
+TellsLists s call answer = Unit {0}
+
+-- the disk may answer this call so, and be that one then
+abbrev pub MayAnswer : Setting → Disk → Option Call → Answer → Disk → Type 0
+MayAnswer s d None answer left = ⊥
+MayAnswer s d (Some call) answer left = Effect d call answer left × TellsLists s call answer
+
+abbrev pub MayHear : Setting → Disk → Option Command → Answer → Disk → Type 0
+MayHear s d None answer left = ⊥
+MayHear s d (Some c) answer left = MayAnswer s d (next_call c) answer left
 
 -- A number is one command's at a time, whose entries are of the boot that it runs in; answers and cuts are honest. A power cut ends all commands.
 unfoldable pub May : Setting → World → Move → Type 0
 May s w (Starts k order host origin) = (w.running k ≡ None) × (origin.boot ≡ host.boot)
-May s w (Answers k answer left) = MayHear w.disk (w.running k) answer left
+May s w (Answers k answer left) = MayHear s w.disk (w.running k) answer left
 May s w (Ends k) = Unit {0}
 May s w (Stops k) = Unit {0}
 May s w (Cuts left) = IsCut w.disk left

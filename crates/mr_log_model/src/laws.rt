@@ -1,5 +1,6 @@
 //! Laws of an output directory with a log of names: these functions do nothing.
 ghost use Rattle.mr_log_model.specs.Promises.{DecisionsStay};
+ghost use Rattle.mr_log_model.specs.Visible.{OutputsStay};
 
 /// The entries of the log are durable, but for one at the end at most. A durable entry stays. Each was decided from exactly
 /// the entries before it. Of whom a command said that it won, it is its task's recorded winner from then on; of whom one
@@ -9,4 +10,11 @@ ghost use Rattle.mr_log_model.specs.Promises.{DecisionsStay};
 /// failed is never published, and the other way round.
 pub fn decisions_stay()
     ensures { DecisionsStay }
+{}
+
+/// Nothing is visible unless the job may be published by durable entries: under hold, not before that was decided. Where the
+/// marker is, the whole output of each task is: each name of what its recorded winner handed in. And none of these is
+/// another later, whatever power cuts come.
+pub fn outputs_stay()
+    ensures { OutputsStay }
 {}

@@ -7,9 +7,13 @@
 //! any of its calls, or a power cut, which ends all commands. No lock is among the premises: entries are exclusive names.
 //!
 //! What commands make and remove is promised by their calls: none is made that durable entries do not allow for good.
-//! Which files are behind the names is not said: all calls but those of the log may be answered anything.
 //!
-//! Not claimed: that a command ends, and time; a disk whose power is cut while the commands go on (a server's).
+//! `outputs_stay`: of such runs too. Nothing is visible unless the job may be published by durable entries. Where the
+//! marker is, the whole output of each task is, and no name of it is another later, whatever power cuts come. Of a folder
+//! that was handed in, all that its list has is its output; a list that is read is the one that was written.
+//!
+//! Not claimed: which files are behind the names, and that they are whole; that a command ends, and time; a disk whose
+//! power is cut while the commands go on (a server's).
 //!
 //! # The proofs
 //!
@@ -18,8 +22,12 @@
 //! a durable front knows all entries (`ends-here`): so a put that is made follows exactly what it was decided from. What
 //! was said or made is carried along as a durable front that says so (`Stood`, `Permits`). That it says so for good is
 //! asked once, at the end, of the laws of mr_log_standing.
+//!
+//! What a publisher knows of the names (`SeesAt`): each name of a winner is there, or a step that makes it is still to be
+//! made (`Progress`, `proofs/Steps.antt`); nothing is made after the sync of a folder. No call takes a visible name away or
+//! makes it another, so this stays too, and a power cut ends whoever knew it. Of a name, each moment counts (`Every`).
 #![tactic(auto)]
 
 mod laws;
 
-pub use laws::decisions_stay;
+pub use laws::{decisions_stay, outputs_stay};

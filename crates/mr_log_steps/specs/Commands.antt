@@ -1,6 +1,6 @@
 -- What a command is between two calls, and which call it makes next. That a command is cut into single calls is our own: it may be killed
 -- between any two.
-use Rattle.std.specs.Prelude.{ℕ, Bool, false, List, [], ◌∷◌, length, Option, Some, None}
+use Rattle.std.specs.Prelude.{Bool, false, List, [], ◌∷◌, length, Option, Some, None}
 use Rattle.mr_ids.specs.Attempt.{Attempt}
 use Rattle.mr_log_entries.specs.declared.line.Line.{Line}
 use Rattle.mr_log_entries.specs.declared.entry.Entry.{Entry}

@@ -1,6 +1,6 @@
 -- What a command does of the answer to its call. That a log is synced before anything follows from it is what write-ahead logging asks; that who finds
 -- its entry's name taken decides again is what makes a log a fence. The order of publishing is the committer document's commit of a job. The rest is our own.
-use Rattle.std.specs.Prelude.{ℕ, ◌==◌, Bool, true, false, ◌&&◌, List, [], ◌∷◌, ◌++◌, Option, Some, None, if◌then◌else◌}
+use Rattle.std.specs.Prelude.{◌==◌, Bool, true, false, ◌&&◌, List, [], ◌∷◌, ◌++◌, Option, Some, None, if◌then◌else◌}
 use Rattle.mr_ids.specs.Attempt.{Attempt}
 use Rattle.mr_log_entries.specs.declared.line.Line.{Line}
 use Rattle.mr_log_entries.specs.declared.line.Line.TheVariants as line
@@ -21,7 +21,6 @@ use Rattle.mr_log_standing.specs.declared.order.Order.{Order}
 use Rattle.mr_log_standing.specs.declared.order.Order.TheVariants as order
 use Rattle.mr_log_standing.specs.declared.order.Outcome.{Outcome}
 use Rattle.mr_log_standing.specs.declared.order.Outcome.TheVariants as outcome
-use Rattle.mr_log_standing.specs.declared.standing.Standing.{Standing}
 use Rattle.mr_log_standing.specs.declared.standing.Standing.TheVariants as stands
 use Rattle.mr_log_standing.specs.declared.standing.Win.{Win}
 use Rattle.mr_log_standing.specs.declared.decision.Decision.{Decision}
