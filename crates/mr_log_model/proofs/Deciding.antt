@@ -1,5 +1,5 @@
 -- Where a command is once it has decided.
-use Rattle.std.proofs.Common.{◌≡◌, inl, Bool, true, false, cond, not, ◌&&◌, List, [], ◌∷◌, Option, Some, None, refl, sym, ap, subst, ◌∙◌, true≢false}
+use Rattle.std.proofs.Common.{◌≡◌, inl, inr, Bool, true, false, cond, not, ◌&&◌, List, [], ◌∷◌, Option, Some, None, refl, sym, ap, subst, ◌∙◌, true≢false}
 use Rattle.mr_ids.specs.Attempt.{Attempt}
 use Rattle.mr_log_entries.specs.declared.line.Line.{Line}
 use Rattle.mr_log_entries.specs.declared.line.Line.TheVariants as line
@@ -32,9 +32,10 @@ use Rattle.mr_log_disk.specs.declared.place.Place.{Place}
 use Rattle.mr_log_disk.specs.Names.{Moments}
 use Rattle.mr_log_steps.specs.declared.phase.Step.{Step}
 use Rattle.mr_log_model.specs.Worlds.{Setting}
-use Rattle.mr_log_model.proofs.Steps.{ToShow, to-show-all, progress-file}
+use Rattle.mr_log_model.proofs.Publications.{PutsMute, mute-decision}
+use Rattle.mr_log_model.proofs.Steps.{ToShow, to-show-all, are-wins-all, progress-file}
 use Rattle.mr_log_model.proofs.Lawful.{starts_none, IsFair, fair-decision}
-use Rattle.mr_log_model.proofs.Invariant.{Permits, IsSo, stage, At, is_plain, IsPlain, SeesAt, Fits, Amid}
+use Rattle.mr_log_model.proofs.Invariant.{Permits, IsSo, stage, At, is_plain, IsPlain, Publishing, SeesAt, Fits, Amid}
 
 -- ---- what a decision says is so
 
@@ -144,15 +145,15 @@ plain-so job durable o end p = record {
   begun = λ a e. absurd (true≢false (sym p ∙ ap is_plain e));
 }
 
-pub over-amid : (s : Setting) (v : Place → Moments) (durable all : List Entry) (c : Command) (o : Outcome) → Fits s.job c.job c.host c.origin c.amiss → is_plain o ≡ true → Amid s v durable all (turns.over o c)
+pub over-amid : (s : Setting) (v : Place → Moments) (durable all : List Entry) (c : Command) (o : Outcome) → Fits s durable v c.job c.host c.origin c.amiss c.is_shown → is_plain o ≡ true → Amid s v durable all (turns.over o c)
 over-amid s v durable all c o f p = record { fits = f; here = plain-so c.job durable c.order o p; sees = tt }
 
 -- a command that knows that the job may be published
 abbrev pub IsShowing : List Entry → Command → Type 0
 IsShowing durable c = IsFront c.entries durable × (is_publishable c.job (lines_of c.entries) ≡ true)
 
-pub publishes-amid : (s : Setting) (v : Place → Moments) (durable all : List Entry) (ws : List Win) (c : Command) → Fits s.job c.job c.host c.origin c.amiss → IsShowing durable c → ToShow s durable v ws → Amid s v durable all (publishes ws c)
-publishes-amid s v durable all [] c f k h = record { fits = f; here = k; sees = inl (refl, h) }
+pub publishes-amid : (s : Setting) (v : Place → Moments) (durable all : List Entry) (ws : List Win) (c : Command) → Fits s durable v c.job c.host c.origin c.amiss c.is_shown → IsShowing durable c → Publishing s durable v ws → Amid s v durable all (publishes ws c)
+publishes-amid s v durable all [] c f k h = record { fits = f; here = k; sees = inl (refl, h.to_show) }
 publishes-amid s v durable all (w ∷ ws) c f k h = by w.handed refl
   where
     by : (x : Handed) → w.handed ≡ x → Amid s v durable all (publishes_one x w (record c { left = ws }))
@@ -160,21 +161,21 @@ publishes-amid s v durable all (w ∷ ws) c f k h = by w.handed refl
     by (handed.Folder bytes) e = record { fits = f; here = k; sees = (h, (bytes, e)) }
 
 -- however it ends, it publishes nothing
-sees-clears : (s : Setting) (durable : List Entry) (v : Place → Moments) (left : List Win) (todo : List Step) (q : Order) (b : Bool) (o : Outcome) → SeesAt s durable v left todo (clears q b o)
-sees-clears s durable v left todo q b o = by q b
+sees-clears : (s : Setting) (durable : List Entry) (v : Place → Moments) (lines : List Line) (left : List Win) (todo : List Step) (q : Order) (b : Bool) (o : Outcome) → SeesAt s durable v lines left todo (clears q b o)
+sees-clears s durable v lines left todo q b o = by q b
   where
-    emptied : (a : Attempt) (p : Outcome) → SeesAt s durable v left todo (empties a p o)
+    emptied : (a : Attempt) (p : Outcome) → SeesAt s durable v lines left todo (empties a p o)
     emptied a (outcome.Stands stands.Beaten) = tt
     emptied a (outcome.Stands stands.GivenUp) = tt
     emptied a (outcome.Stands stands.JobOver) = tt
     emptied a _ = tt
 
-    ups : (r : Order) → SeesAt s durable v left todo (clears_up r o)
+    ups : (r : Order) → SeesAt s durable v lines left todo (clears_up r o)
     ups (order.Done a) = emptied a o
     ups (order.Fail a) = emptied a o
     ups _ = tt
 
-    by : (r : Order) (b : Bool) → SeesAt s durable v left todo (clears r b o)
+    by : (r : Order) (b : Bool) → SeesAt s durable v lines left todo (clears r b o)
     by (order.Ask a) b = tt
     by r true = tt
     by r false = ups r
@@ -183,34 +184,35 @@ sees-clears s durable v left todo q b o = by q b
 abbrev MayPut : Command → Decision → Type 0
 MayPut c d = (ls : List Line) → IsPutBy d ls → IsDecided c.job c.entries (record { lines = ls; origin = c.origin })
 
-acts-amid : (s : Setting) (v : Place → Moments) (durable all : List Entry) (c : Command) (d : Decision) → Fits s.job c.job c.host c.origin c.amiss → IsFront c.entries durable → IsTrue c.job c.entries c.order d → IsFair c.job (lines_of c.entries) d → MayPut c d
+acts-amid : (s : Setting) (v : Place → Moments) (durable all : List Entry) (c : Command) (d : Decision) → Fits s durable v c.job c.host c.origin c.amiss c.is_shown → IsFront c.entries durable → IsTrue c.job c.entries c.order d → IsFair c.job (lines_of c.entries) d → PutsMute d → MayPut c d
     → Amid s v durable all (acts d c)
 unfolding acts
-acts-amid s v durable all c (Ends o) f k t fair m =
+acts-amid s v durable all c (Ends o) f k t fair mute m =
     let so : IsSo c.job durable c.order o = record { stands = λ a st about e. record { by = c.entries; front = k; stands = t a st about e }; begun = λ a e. absurd (true≢false (sym fair ∙ ap starts_none e)) } in
-    record { fits = f; here = ends-at c.job durable all c.order c.entries (own_entry c) c.begun o k t so; sees = sees-clears s durable v c.left c.todo c.order (is_published (lines_of c.entries)) o }
-acts-amid s v durable all c (Publishes o) f k t fair m = by c.amiss f.amiss
+    record { fits = f; here = ends-at c.job durable all c.order c.entries (own_entry c) c.begun o k t so; sees = sees-clears s durable v c.lines c.left c.todo c.order (is_published (lines_of c.entries)) o }
+acts-amid s v durable all c (Publishes o) f k t fair mute m = by c.amiss f.amiss
   where
-    all-of : (b : Bool) → Amid s v durable all (cond b (puts (line.Published ∷ []) c) (publishes (wins c.job c.entries c.job.tasks) c))
-    all-of true = record { fits = f; here = (k, m (line.Published ∷ []) refl); sees = tt }
-    all-of false =
+    all-of : (b : Bool) → c.is_shown ≡ b → Amid s v durable all (cond b (puts (line.Published ∷ []) c) (publishes (wins c.job c.entries c.job.tasks) c))
+    all-of true e = record { fits = f; here = (k, m (line.Published ∷ []) refl); sees = inr (f.visible e) }
+    all-of false e =
         let P : Job → Type 0 = λ j. is_publishable j (lines_of c.entries) ≡ true in
         let Q : Job → Type 0 = λ j. ToShow s durable v (wins j c.entries j.tasks) in
-        publishes-amid s v durable all (wins c.job c.entries c.job.tasks) c f (k, fair) (subst Q (sym f.job) (to-show-all s durable c.entries v k (subst P f.job fair)))
+        publishes-amid s v durable all (wins c.job c.entries c.job.tasks) c f (k, fair)
+        (record { to_show = subst Q (sym f.job) (to-show-all s durable c.entries v k (subst P f.job fair)); wins = are-wins-all c.job durable c.entries k })
 
     by : (x : Option Outcome) → IsPlain x → Amid s v durable all (publishes_unless x c)
-    by None p = all-of c.is_shown
+    by None p = all-of c.is_shown refl
     by (Some end) p = over-amid s v durable all c end f p
-acts-amid s v durable all c (HandsIn a) f k t fair m = by c.amiss f.amiss
+acts-amid s v durable all c (HandsIn a) f k t fair mute m = by c.amiss f.amiss
   where
     by : (x : Option Outcome) → IsPlain x → Amid s v durable all (turns.hands_in x a c)
     by None p = record { fits = f; here = k; sees = tt }
     by (Some end) p = over-amid s v durable all c end f p
-acts-amid s v durable all c (Puts ls) f k t fair m = record { fits = f; here = (k, m ls refl); sees = tt }
-acts-amid s v durable all c (Begins ls) f k t fair m = record { fits = f; here = (k, m ls refl); sees = tt }
-acts-amid s v durable all c Forgets f k t fair m = record { fits = f; here = (k, fair); sees = tt }
+acts-amid s v durable all c (Puts ls) f k t fair mute m = record { fits = f; here = (k, m ls refl); sees = inl mute }
+acts-amid s v durable all c (Begins ls) f k t fair mute m = record { fits = f; here = (k, m ls refl); sees = inl mute }
+acts-amid s v durable all c Forgets f k t fair mute m = record { fits = f; here = (k, fair); sees = tt }
 
-pub decides-amid : (s : Setting) (v : Place → Moments) (durable all : List Entry) (c : Command) → Fits s.job c.job c.host c.origin c.amiss → IsFront c.entries durable → Amid s v durable all (decides c)
+pub decides-amid : (s : Setting) (v : Place → Moments) (durable all : List Entry) (c : Command) → Fits s durable v c.job c.host c.origin c.amiss c.is_shown → IsFront c.entries durable → Amid s v durable all (decides c)
 decides-amid s v durable all c f k =
-    acts-amid s v durable all c (decision_of c.conclusion c.order c.job c.host c.entries) f k (decision-true c.conclusion c.order c.job c.host c.entries) (fair-decision c.conclusion c.order c.job c.host c.entries)
+    acts-amid s v durable all c (decision_of c.conclusion c.order c.job c.host c.entries) f k (decision-true c.conclusion c.order c.job c.host c.entries) (fair-decision c.conclusion c.order c.job c.host c.entries) (mute-decision c.conclusion c.order c.job c.host c.entries)
     (λ ls p. record { order = c.order; host = c.host; conclusion = c.conclusion; boot = f.boot; put = p })

@@ -11,6 +11,7 @@ use Rattle.mr_log_entries.specs.declared.line.Handed.{Handed}
 use Rattle.mr_log_entries.specs.declared.entry.Entry.{Entry}
 use Rattle.mr_log_entries.specs.Recorded.{lines_of}
 use Rattle.mr_log_disk.specs.declared.call.Call.TheVariants as call
+use Rattle.mr_log_disk.specs.declared.place.Folder.TheVariants as folder
 use Rattle.mr_log_disk.specs.declared.place.Node.{Node}
 use Rattle.mr_log_disk.specs.declared.place.Item.{Item}
 use Rattle.mr_log_disk.specs.declared.answer.Reply.{Reply}
@@ -36,39 +37,39 @@ use Rattle.mr_log_model.specs.Promises.{IsFront}
 use Rattle.mr_log_disk.specs.declared.place.Place.{Place}
 use Rattle.mr_log_disk.specs.Names.{Moments}
 use Rattle.mr_log_model.specs.Worlds.{Setting}
-use Rattle.mr_log_model.proofs.Steps.{Progress, progress-done, ToShow, to-show-next}
+use Rattle.mr_log_model.proofs.Steps.{Progress, progress-done, to-show-next, IsShown}
 use Rattle.mr_log_model.proofs.Fronts.{lines-more}
-use Rattle.mr_log_model.proofs.Invariant.{Permits, AreBegun, Knows, stage, is_plain, MarkAt, Fits, Amid}
+use Rattle.mr_log_model.proofs.Invariant.{Permits, AreBegun, Knows, stage, is_plain, marker_next, marker_last, MarkAt, Publishing, Fits, Amid}
 use Rattle.mr_log_model.proofs.Deciding.{IsShowing, over-amid, publishes-amid, decides-amid}
 
 -- of a command that fits, and knows a durable front
 abbrev Lands : Setting → (Place → Moments) → List Entry → List Entry → Command → Command → Type 0
-Lands s v durable all c new = Fits s.job c.job c.host c.origin c.amiss → IsFront c.entries durable → Amid s v durable all new
+Lands s v durable all c new = Fits s durable v c.job c.host c.origin c.amiss c.is_shown → IsFront c.entries durable → Amid s v durable all new
 
 -- by which the job may be published
 abbrev LandsShown : Setting → (Place → Moments) → List Entry → List Entry → Command → Command → Type 0
-LandsShown s v durable all c new = Fits s.job c.job c.host c.origin c.amiss → IsShowing durable c → Amid s v durable all new
+LandsShown s v durable all c new = Fits s durable v c.job c.host c.origin c.amiss c.is_shown → IsShowing durable c → Amid s v durable all new
 
-pub ends-so : (s : Setting) (v : Place → Moments) (durable all : List Entry) (c : Command) (o : Outcome) → is_plain o ≡ true → Fits s.job c.job c.host c.origin c.amiss → Amid s v durable all (turns.over o c)
+pub ends-so : (s : Setting) (v : Place → Moments) (durable all : List Entry) (c : Command) (o : Outcome) → is_plain o ≡ true → Fits s durable v c.job c.host c.origin c.amiss c.is_shown → Amid s v durable all (turns.over o c)
 ends-so s v durable all c o e f = over-amid s v durable all c o f e
 
 finds-amid : (s : Setting) (v : Place → Moments) (durable all : List Entry) (c : Command) (o : Outcome) → is_plain o ≡ true → Lands s v durable all c (finds o c)
-finds-amid s v durable all c o e f k = record { fits = record { job = f.job; boot = f.boot; amiss = e }; here = k; sees = tt }
+finds-amid s v durable all c o e f k = record { fits = record { job = f.job; boot = f.boot; amiss = e; visible = f.visible }; here = k; sees = tt }
 
 drops-amid : (s : Setting) (v : Place → Moments) (durable all : List Entry) (c : Command) (o : Outcome) (a : Attempt) → is_plain o ≡ true → Lands s v durable all c (drops_for o a c)
-drops-amid s v durable all c o a e f k = record { fits = record { job = f.job; boot = f.boot; amiss = e }; here = k; sees = tt }
+drops-amid s v durable all c o a e f k = record { fits = record { job = f.job; boot = f.boot; amiss = e; visible = f.visible }; here = k; sees = tt }
 
 concludes-amid : (s : Setting) (v : Place → Moments) (durable all : List Entry) (c : Command) (x : Conclusion) → Lands s v durable all c (concludes x c)
 concludes-amid s v durable all c x f k = decides-amid s v durable all (record c { conclusion = Some x }) f k
 
 -- ---- beginning
 
-pub makes-amid : (s : Setting) (v : Place → Moments) (durable all : List Entry) (xs : List Attempt) (c : Command) → Fits s.job c.job c.host c.origin c.amiss → IsFront c.entries durable → AreBegun (lines_of c.entries) xs → Amid s v durable all (makes_work xs c)
+pub makes-amid : (s : Setting) (v : Place → Moments) (durable all : List Entry) (xs : List Attempt) (c : Command) → Fits s durable v c.job c.host c.origin c.amiss c.is_shown → IsFront c.entries durable → AreBegun (lines_of c.entries) xs → Amid s v durable all (makes_work xs c)
 makes-amid s v durable all [] c f k b = decides-amid s v durable all c f k
 makes-amid s v durable all (a ∷ rest) c f k b = record { fits = f; here = (k, b); sees = tt }
 
 -- it says that it began the attempt, which is recorded
-started-amid : (s : Setting) (v : Place → Moments) (durable all : List Entry) (a : Attempt) (c : Command) → Fits s.job c.job c.host c.origin c.amiss → IsFront c.entries durable → list_any (is_start_of a) (lines_of c.entries) ≡ true → Amid s v durable all (turns.over (outcome.Started a) c)
+started-amid : (s : Setting) (v : Place → Moments) (durable all : List Entry) (a : Attempt) (c : Command) → Fits s durable v c.job c.host c.origin c.amiss c.is_shown → IsFront c.entries durable → list_any (is_start_of a) (lines_of c.entries) ≡ true → Amid s v durable all (turns.over (outcome.Started a) c)
 started-amid s v durable all a c f k b = record { fits = f; here = record { stands = λ x st about e. absurd (no-standing a st e); begun = λ x e. at x (same a x e) }; sees = tt }
   where
     no-standing : (x : Attempt) (st : Standing) → outcome.Started x ≡ outcome.Stands st → ⊥
@@ -80,17 +81,17 @@ started-amid s v durable all a c f k b = record { fits = f; here = record { stan
     at : (x : Attempt) → a ≡ x → Permits c.job durable (call.MakeWork x)
     at x e = let P : Attempt → Type 0 = λ y. list_any (is_start_of y) (lines_of c.entries) ≡ true in record { by = c.entries; front = k; allows = subst P e b }
 
-begun-amid : (s : Setting) (v : Place → Moments) (durable all : List Entry) (o : Order) (a : Attempt) (c : Command) → Fits s.job c.job c.host c.origin c.amiss → IsFront c.entries durable → list_any (is_start_of a) (lines_of c.entries) ≡ true → Amid s v durable all (has_begun o a c)
+begun-amid : (s : Setting) (v : Place → Moments) (durable all : List Entry) (o : Order) (a : Attempt) (c : Command) → Fits s durable v c.job c.host c.origin c.amiss c.is_shown → IsFront c.entries durable → list_any (is_start_of a) (lines_of c.entries) ≡ true → Amid s v durable all (has_begun o a c)
 begun-amid s v durable all order.StartNext a c f k b = started-amid s v durable all a c f k b
 begun-amid s v durable all (order.StartAt n) a c f k b = started-amid s v durable all a c f k b
 begun-amid s v durable all (order.StartOver n) a c f k b = started-amid s v durable all a c f k b
 begun-amid s v durable all _ a c f k b = decides-amid s v durable all c f k
 
-made-amid : (s : Setting) (v : Place → Moments) (durable all : List Entry) (xs : List Attempt) (a : Attempt) (c : Command) → Fits s.job c.job c.host c.origin c.amiss → IsFront c.entries durable → AreBegun (lines_of c.entries) (a ∷ xs) → Amid s v durable all (work_made xs a c)
+made-amid : (s : Setting) (v : Place → Moments) (durable all : List Entry) (xs : List Attempt) (a : Attempt) (c : Command) → Fits s durable v c.job c.host c.origin c.amiss c.is_shown → IsFront c.entries durable → AreBegun (lines_of c.entries) (a ∷ xs) → Amid s v durable all (work_made xs a c)
 made-amid s v durable all [] a c f k b = begun-amid s v durable all c.order a c f k b.0
 made-amid s v durable all (x ∷ rest) a c f k b = makes-amid s v durable all (x ∷ rest) c f k b.1
 
-pub on-work : (s : Setting) (v : Place → Moments) (durable all : List Entry) (r : Reply) (a : Attempt) (c : Command) → Fits s.job c.job c.host c.origin c.amiss → IsFront c.entries durable → AreBegun (lines_of c.entries) (a ∷ c.begun) → Amid s v durable all (work_heard r a c)
+pub on-work : (s : Setting) (v : Place → Moments) (durable all : List Entry) (r : Reply) (a : Attempt) (c : Command) → Fits s durable v c.job c.host c.origin c.amiss c.is_shown → IsFront c.entries durable → AreBegun (lines_of c.entries) (a ∷ c.begun) → Amid s v durable all (work_heard r a c)
 on-work s v durable all Done a c f k b = made-amid s v durable all c.begun a c f k b
 on-work s v durable all Taken a c f k b = made-amid s v durable all c.begun a c f k b
 on-work s v durable all _ a c f k b = ends-so s v durable all c outcome.Failed refl f
@@ -189,48 +190,62 @@ on-not-read s v durable all Missing w c f k = finds-amid s v durable all c (outc
 on-not-read s v durable all Odd w c f k = finds-amid s v durable all c (outcome.Vanished w.attempt) refl f k.0
 on-not-read s v durable all _ w c f k = finds-amid s v durable all c outcome.Failed refl f k.0
 
-on-linked : (s : Setting) (v : Place → Moments) (durable all : List Entry) (xs : List Step) (w : Win) (c : Command) → Fits s.job c.job c.host c.origin c.amiss → IsShowing durable c
-    → ToShow s durable v (w ∷ c.left) → Progress s v w (rest_of xs) → Amid s v durable all (linked_on xs w c)
+on-linked : (s : Setting) (v : Place → Moments) (durable all : List Entry) (xs : List Step) (w : Win) (c : Command) → Fits s durable v c.job c.host c.origin c.amiss c.is_shown → IsShowing durable c
+    → Publishing s durable v (w ∷ c.left) → Progress s v w (rest_of xs) → Amid s v durable all (linked_on xs w c)
 on-linked s v durable all (x ∷ y ∷ rest) w c f k h g = record { fits = f; here = k; sees = (h, g) }
-on-linked s v durable all (x ∷ []) w c f k h g = publishes-amid s v durable all c.left (record c { todo = [] }) f k (to-show-next s durable v w c.left (progress-done s v w g) h)
-on-linked s v durable all [] w c f k h g = publishes-amid s v durable all c.left (record c { todo = [] }) f k (to-show-next s durable v w c.left (progress-done s v w g) h)
+on-linked s v durable all (x ∷ []) w c f k h g = publishes-amid s v durable all c.left (record c { todo = [] }) f k (record { to_show = to-show-next s durable v w c.left (progress-done s v w g) h.to_show; wins = h.wins.1 })
+on-linked s v durable all [] w c f k h g = publishes-amid s v durable all c.left (record c { todo = [] }) f k (record { to_show = to-show-next s durable v w c.left (progress-done s v w g) h.to_show; wins = h.wins.1 })
 
-pub on-linking : (s : Setting) (v : Place → Moments) (durable all : List Entry) (r : Reply) (w : Win) (c : Command) → Fits s.job c.job c.host c.origin c.amiss → IsShowing durable c
-    → ToShow s durable v (w ∷ c.left) → Progress s v w c.todo → (r ≡ Done → Progress s v w (rest_of c.todo)) → Amid s v durable all (linking_heard r w c)
+pub on-linking : (s : Setting) (v : Place → Moments) (durable all : List Entry) (r : Reply) (w : Win) (c : Command) → Fits s durable v c.job c.host c.origin c.amiss c.is_shown → IsShowing durable c
+    → Publishing s durable v (w ∷ c.left) → Progress s v w c.todo → (r ≡ Done → Progress s v w (rest_of c.todo)) → Amid s v durable all (linking_heard r w c)
 on-linking s v durable all Done w c f k h g n = on-linked s v durable all c.todo w c f k h (n refl)
 on-linking s v durable all Taken w c f k h g n = record { fits = f; here = k; sees = (h, g) }
 on-linking s v durable all Missing w c f k h g n = finds-amid s v durable all c (outcome.Vanished w.attempt) refl f k.0
 on-linking s v durable all _ w c f k h g n = finds-amid s v durable all c outcome.Failed refl f k.0
 
-on-compared : (s : Setting) (v : Place → Moments) (durable all : List Entry) (x : Node) (w : Win) (c : Command) → Fits s.job c.job c.host c.origin c.amiss → IsShowing durable c
-    → ToShow s durable v (w ∷ c.left) → (is_same c.todo x ≡ true → Progress s v w (rest_of c.todo)) → Amid s v durable all (compared x w c)
+on-compared : (s : Setting) (v : Place → Moments) (durable all : List Entry) (x : Node) (w : Win) (c : Command) → Fits s durable v c.job c.host c.origin c.amiss c.is_shown → IsShowing durable c
+    → Publishing s durable v (w ∷ c.left) → (is_same c.todo x ≡ true → Progress s v w (rest_of c.todo)) → Amid s v durable all (compared x w c)
 on-compared s v durable all x w c f k h n = by (is_same c.todo x) n
   where
     by : (b : Bool) → (b ≡ true → Progress s v w (rest_of c.todo)) → Amid s v durable all (cond b (linked_on c.todo w c) (finds (outcome.Foreign w.attempt) c))
     by true m = on-linked s v durable all c.todo w c f k h (m refl)
     by false m = finds-amid s v durable all c (outcome.Foreign w.attempt) refl f k.0
 
-pub on-comparing : (s : Setting) (v : Place → Moments) (durable all : List Entry) (r : Reply) (w : Win) (c : Command) → Fits s.job c.job c.host c.origin c.amiss → IsShowing durable c
-    → ToShow s durable v (w ∷ c.left) → ((x : Node) → r ≡ Found x → is_same c.todo x ≡ true → Progress s v w (rest_of c.todo)) → Amid s v durable all (comparing_heard r w c)
+pub on-comparing : (s : Setting) (v : Place → Moments) (durable all : List Entry) (r : Reply) (w : Win) (c : Command) → Fits s durable v c.job c.host c.origin c.amiss c.is_shown → IsShowing durable c
+    → Publishing s durable v (w ∷ c.left) → ((x : Node) → r ≡ Found x → is_same c.todo x ≡ true → Progress s v w (rest_of c.todo)) → Amid s v durable all (comparing_heard r w c)
 on-comparing s v durable all (Found x) w c f k h n = on-compared s v durable all x w c f k h (n x refl)
 on-comparing s v durable all Missing w c f k h n = finds-amid s v durable all c (outcome.Vanished w.attempt) refl f k.0
 on-comparing s v durable all Odd w c f k h n = finds-amid s v durable all c (outcome.Foreign w.attempt) refl f k.0
 on-comparing s v durable all _ w c f k h n = finds-amid s v durable all c outcome.Failed refl f k.0
 
-on-marked : (s : Setting) (v : Place → Moments) (durable all : List Entry) (xs : List Step) (c : Command) → Fits s.job c.job c.host c.origin c.amiss → IsShowing durable c → MarkAt s durable v (rest_of xs) ⊎ (rest_of xs ≡ [])
+-- where the marker's steps are then: some are left, or all is visible for good
+abbrev pub MarkNext : Setting → List Entry → (Place → Moments) → List Step → Type 0
+MarkNext s durable v rest = MarkAt s durable v rest ⊎ ((rest ≡ []) × IsShown s durable v)
+
+no-step : (x : Step) (xs : List Step) → [] ≡ x ∷ xs → ⊥
+no-step x xs e = absurd (cc)
+
+-- what is next of no step
+next-none : (s : Setting) (durable : List Entry) (v : Place → Moments) → MarkNext s durable v [] → IsShown s durable v
+next-none s durable v (inl (inl x)) = absurd (no-step (step.SyncFolder folder.Output) marker_next x.0)
+next-none s durable v (inl (inr (inl x))) = absurd (no-step step.LinkMarker marker_last x.0)
+next-none s durable v (inl (inr (inr x))) = absurd (no-step (step.SyncFolder folder.Output) [] x.0)
+next-none s durable v (inr x) = x.1
+
+on-marked : (s : Setting) (v : Place → Moments) (durable all : List Entry) (xs : List Step) (c : Command) → Fits s durable v c.job c.host c.origin c.amiss c.is_shown → IsShowing durable c → MarkNext s durable v (rest_of xs)
     → Amid s v durable all (marked_on xs c)
 on-marked s v durable all (x ∷ y ∷ rest) c f k (inl m) = record { fits = f; here = k; sees = m }
-on-marked s v durable all (x ∷ y ∷ rest) c f k (inr e) = absurd (cc)
-on-marked s v durable all (x ∷ []) c f k m = decides-amid s v durable all (record c { todo = []; is_shown = true }) f k.0
-on-marked s v durable all [] c f k m = decides-amid s v durable all (record c { todo = []; is_shown = true }) f k.0
+on-marked s v durable all (x ∷ y ∷ rest) c f k (inr e) = absurd (no-step y rest (sym e.0))
+on-marked s v durable all (x ∷ []) c f k m = decides-amid s v durable all (record c { todo = []; is_shown = true }) (record { job = f.job; boot = f.boot; amiss = f.amiss; visible = λ e. next-none s durable v m }) k.0
+on-marked s v durable all [] c f k m = decides-amid s v durable all (record c { todo = []; is_shown = true }) (record { job = f.job; boot = f.boot; amiss = f.amiss; visible = λ e. next-none s durable v m }) k.0
 
-on-taken : (s : Setting) (v : Place → Moments) (durable all : List Entry) (xs : List Step) (c : Command) → Fits s.job c.job c.host c.origin c.amiss → IsShowing durable c
-    → ((rest : List Step) → xs ≡ step.LinkMarker ∷ rest → MarkAt s durable v rest ⊎ (rest ≡ [])) → Amid s v durable all (marker_taken xs c)
+on-taken : (s : Setting) (v : Place → Moments) (durable all : List Entry) (xs : List Step) (c : Command) → Fits s durable v c.job c.host c.origin c.amiss c.is_shown → IsShowing durable c
+    → ((rest : List Step) → xs ≡ step.LinkMarker ∷ rest → MarkNext s durable v rest) → Amid s v durable all (marker_taken xs c)
 on-taken s v durable all (step.LinkMarker ∷ rest) c f k m = on-marked s v durable all (step.LinkMarker ∷ rest) c f k (m rest refl)
 on-taken s v durable all _ c f k m = finds-amid s v durable all c outcome.Failed refl f k.0
 
-pub on-marking : (s : Setting) (v : Place → Moments) (durable all : List Entry) (r : Reply) (c : Command) → Fits s.job c.job c.host c.origin c.amiss → IsShowing durable c
-    → (r ≡ Done → MarkAt s durable v (rest_of c.todo) ⊎ (rest_of c.todo ≡ [])) → (r ≡ Taken → (rest : List Step) → c.todo ≡ step.LinkMarker ∷ rest → MarkAt s durable v rest ⊎ (rest ≡ [])) → Amid s v durable all (marking_heard r c)
+pub on-marking : (s : Setting) (v : Place → Moments) (durable all : List Entry) (r : Reply) (c : Command) → Fits s durable v c.job c.host c.origin c.amiss c.is_shown → IsShowing durable c
+    → (r ≡ Done → MarkNext s durable v (rest_of c.todo)) → (r ≡ Taken → (rest : List Step) → c.todo ≡ step.LinkMarker ∷ rest → MarkNext s durable v rest) → Amid s v durable all (marking_heard r c)
 on-marking s v durable all Done c f k m t = on-marked s v durable all c.todo c f k (m refl)
 on-marking s v durable all Taken c f k m t = on-taken s v durable all c.todo c f k (t refl)
 on-marking s v durable all _ c f k m t = finds-amid s v durable all c outcome.Failed refl f k.0
@@ -273,10 +288,10 @@ known-hears s v durable all c (Over o) e r f k = absurd (cc)
 -- ---- entries, and lists
 
 -- entries were read after those that are known
-pub read-amid : (s : Setting) (v : Place → Moments) (durable all : List Entry) (c : Command) (es : List Entry) → Fits s.job c.job c.host c.origin c.amiss → IsFront (c.entries ++ es) all → Amid s v durable all (knows es c)
+pub read-amid : (s : Setting) (v : Place → Moments) (durable all : List Entry) (c : Command) (es : List Entry) → Fits s durable v c.job c.host c.origin c.amiss c.is_shown → IsFront (c.entries ++ es) all → Amid s v durable all (knows es c)
 read-amid s v durable all c es f k = record { fits = f; here = k; sees = tt }
 
-pub read-on-amid : (s : Setting) (v : Place → Moments) (durable all : List Entry) (c : Command) (es : List Entry) → Fits s.job c.job c.host c.origin c.amiss → IsFront (c.entries ++ es) all → Amid s v durable all (reads_on es c)
+pub read-on-amid : (s : Setting) (v : Place → Moments) (durable all : List Entry) (c : Command) (es : List Entry) → Fits s durable v c.job c.host c.origin c.amiss c.is_shown → IsFront (c.entries ++ es) all → Amid s v durable all (reads_on es c)
 read-on-amid s v durable all c [] f k = read-amid s v durable all c [] f k
 read-on-amid s v durable all c (e ∷ es) f k = by (same_origin e.origin c.origin)
   where

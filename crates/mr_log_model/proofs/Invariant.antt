@@ -2,6 +2,7 @@
 use Rattle.std.proofs.Common.{◌≡◌, ◌⊎◌, ℕ, Bool, true, false, List, [], ◌∷◌, Option, Some, None}
 use Rattle.std.specs.List.{list_any}
 use Rattle.mr_ids.specs.Attempt.{Attempt}
+use Rattle.mr_ids.specs.declared.id.TaskId.{TaskId}
 use Rattle.mr_log_entries.specs.declared.line.Line.{Line}
 use Rattle.mr_log_entries.specs.declared.entry.Entry.{Entry}
 use Rattle.mr_log_entries.specs.declared.entry.Origin.{Origin}
@@ -20,7 +21,7 @@ use Rattle.mr_log_standing.specs.declared.order.Outcome.{Outcome}
 use Rattle.mr_log_standing.specs.declared.order.Outcome.TheVariants as outcome
 use Rattle.mr_log_standing.specs.declared.standing.Standing.{Standing}
 use Rattle.mr_log_standing.specs.Host.{Host}
-use Rattle.mr_log_standing.specs.Standing.{is_start_of, is_published, is_publishable, standing}
+use Rattle.mr_log_standing.specs.Standing.{win_of, is_start_of, is_published, is_publishable, standing}
 use Rattle.mr_log_steps.specs.declared.phase.Phase.{Phase}
 use Rattle.mr_log_steps.specs.declared.phase.Phase.TheVariants.{Reading, SyncingLog, Putting, SyncingPut, ReadingOn, MakingWork, Claiming, TakingNote, ListingKept, HandingIn, DroppingNote, SyncingKept, ReadingList, Linking, Comparing, Marking, Emptying, EmptyingAll, Forgetting, SyncingForgotten, Over}
 use Rattle.mr_log_steps.specs.Commands.{Command, own_entry}
@@ -29,8 +30,9 @@ use Rattle.mr_log_steps.specs.Lists.{marking}
 use Rattle.mr_log_steps.specs.declared.phase.Step.{Step}
 use Rattle.mr_log_steps.specs.declared.phase.Step.TheVariants as step
 use Rattle.mr_log_model.specs.Worlds.{Setting, World}
-use Rattle.mr_log_model.proofs.Names.{Every, IfThere}
-use Rattle.mr_log_model.proofs.Steps.{Progress, ToShow, AllShown}
+use Rattle.mr_log_model.specs.Visible.{LinksOwn}
+use Rattle.mr_log_model.proofs.Names.{Every, IfThere, There}
+use Rattle.mr_log_model.proofs.Steps.{Progress, ToShow, AreWins, AllShown, IsShown}
 use Rattle.mr_log_model.specs.Promises.{IsLog, with_last, IsFront, IsDecided, AreDecided, IsAbout, HasSaid, HasSaidStart, IsAllowed, IsAmong}
 
 -- ---- what is said, and what is made
@@ -124,11 +126,6 @@ abbrev pub IsPlain : Option Outcome → Type 0
 IsPlain None = Unit {0}
 IsPlain (Some o) = is_plain o ≡ true
 
-pub record Fits (wanted is : Job) (host : Host) (origin : Origin) (found : Option Outcome) : Type 0 where
-  pub job : is ≡ wanted
-  pub boot : origin.boot ≡ host.boot
-  pub amiss : IsPlain found
-
 -- ---- what a command has published
 
 -- what is left to be done once the winners' names are durable, and once the marker is there
@@ -139,23 +136,43 @@ abbrev pub marker_last : List Step
 marker_last = step.SyncFolder folder.Output ∷ []
 
 abbrev pub MarkAt : Setting → List Entry → (Place → Moments) → List Step → Type 0
-MarkAt s durable v todo = ((todo ≡ marking) × ToShow s durable v []) ⊎ (((todo ≡ marker_next) × AllShown s durable v) ⊎ ((todo ≡ marker_last) × AllShown s durable v))
+MarkAt s durable v todo = ((todo ≡ marking) × ToShow s durable v []) ⊎ (((todo ≡ marker_next) × AllShown s durable v) ⊎ ((todo ≡ marker_last) × AllShown s durable v × There (v Marker)))
 
-abbrev pub SeesAt : Setting → List Entry → (Place → Moments) → List Win → List Step → Phase → Type 0
-SeesAt s durable v left todo (ReadingList w) = ToShow s durable v (w ∷ left) × ((bytes : ℕ) × (w.handed ≡ handed.Folder bytes))
-SeesAt s durable v left todo (Linking w) = ToShow s durable v (w ∷ left) × Progress s v w todo
-SeesAt s durable v left todo (Comparing w) = ToShow s durable v (w ∷ left) × Progress s v w todo
-SeesAt s durable v left todo Marking = MarkAt s durable v todo
-SeesAt s durable v left todo _ = Unit {0}
+-- the winners that are to be published, and which they are
+pub record Publishing (s : Setting) (durable : List Entry) (v : Place → Moments) (ws : List Win) : Type 0 where
+  pub to_show : ToShow s durable v ws
+  pub wins : AreWins durable ws
+
+abbrev pub SeesAt : Setting → List Entry → (Place → Moments) → List Line → List Win → List Step → Phase → Type 0
+SeesAt s durable v lines left todo Putting = (is_published lines ≡ false) ⊎ IsShown s durable v
+SeesAt s durable v lines left todo (ReadingList w) = Publishing s durable v (w ∷ left) × ((bytes : ℕ) × (w.handed ≡ handed.Folder bytes))
+SeesAt s durable v lines left todo (Linking w) = Publishing s durable v (w ∷ left) × Progress s v w todo
+SeesAt s durable v lines left todo (Comparing w) = Publishing s durable v (w ∷ left) × Progress s v w todo
+SeesAt s durable v lines left todo Marking = MarkAt s durable v todo
+SeesAt s durable v lines left todo _ = Unit {0}
+
+pub record Fits (s : Setting) (durable : List Entry) (v : Place → Moments) (is : Job) (host : Host) (origin : Origin) (found : Option Outcome) (made : Bool) : Type 0 where
+  pub job : is ≡ s.job
+  pub boot : origin.boot ≡ host.boot
+  pub amiss : IsPlain found
+  -- a command that has made the marker durable
+  pub visible : made ≡ true → IsShown s durable v
 
 pub record Amid (s : Setting) (v : Place → Moments) (durable all : List Entry) (c : Command) : Type 0 where
-  pub fits : Fits s.job c.job c.host c.origin c.amiss
+  pub fits : Fits s durable v c.job c.host c.origin c.amiss c.is_shown
   pub here : At c.job durable all c.order c.entries (own_entry c) c.begun (stage c.phase)
-  pub sees : SeesAt s durable v c.left c.todo c.phase
+  pub sees : SeesAt s durable v c.lines c.left c.todo c.phase
 
 abbrev pub AmidAny : Setting → (Place → Moments) → List Entry → List Entry → Option Command → Type 0
 AmidAny s v durable all None = Unit {0}
 AmidAny s v durable all (Some c) = Amid s v durable all c
+
+-- what is linked so is a recorded winner's
+pub record Source (durable : List Entry) (from to : Place) : Type 0 where
+  pub win : Win
+  pub task : TaskId
+  pub is : win_of durable task ≡ Some win
+  pub own : LinksOwn win.attempt from to
 
 -- the job may be published, by durable entries
 pub record MayShow (job : Job) (durable : List Entry) : Type 0 where
@@ -171,6 +188,8 @@ pub record Holds (s : Setting) (w : World) (durable : List Entry) (last : Option
   pub amid : (k : ℕ) → AmidAny s w.disk.names durable (with_last durable last) (w.running k)
   pub early : (p : Place) → IsVisible p → Every (IfThere (MayShow s.job durable)) (w.disk.names p)
   pub marker : Every (IfThere (AllShown s durable w.disk.names)) (w.disk.names Marker)
+  pub published : is_published (lines_of (with_last durable last)) ≡ true → IsShown s durable w.disk.names
+  pub sourced : (from to : Place) → IsAmong (call.Link from to) w.calls → Source durable from to
   pub allowed : (x : Call) → IsAmong x w.calls → Permits s.job durable x
   pub said : (a : Attempt) (st : Standing) → HasSaid w.said a st → Stood s.job durable a st
   pub started : (a : Attempt) → HasSaidStart w.said a → Permits s.job durable (call.MakeWork a)

@@ -1,6 +1,7 @@
 -- Each move keeps the invariant; so decisions stay.
-use Rattle.std.proofs.Common.{◌≡◌, ◌≢◌, ◌⊎◌, inl, inr, ◌==◌, ℕ, Bool, true, false, cond, List, [], ◌∷◌, ◌++◌, Option, Some, None, refl, sym, ap, subst, ◌∙◌}
+use Rattle.std.proofs.Common.{◌≡◌, ◌≢◌, ◌⊎◌, inl, inr, ◌==◌, ℕ, Bool, true, false, cond, List, [], ◌∷◌, ◌++◌, Option, Some, None, refl, sym, ap, subst, ◌∙◌, true≢false}
 use Rattle.mr_ids.specs.Attempt.{Attempt}
+use Rattle.mr_ids.specs.declared.id.TaskId.{TaskId}
 use Rattle.mr_ids.specs.Same.{same_attempt}
 use Rattle.mr_ids.proofs.Same.{same_attempt-itself}
 use Rattle.mr_log_entries.specs.declared.line.Line.{Line}
@@ -22,31 +23,32 @@ use Rattle.mr_log_standing.specs.declared.order.Outcome.{Outcome}
 use Rattle.mr_log_standing.specs.declared.order.Outcome.TheVariants as outcome
 use Rattle.mr_log_standing.specs.declared.standing.Standing.{Standing}
 use Rattle.mr_log_standing.specs.declared.standing.Standing.TheVariants as stands
-use Rattle.mr_log_standing.specs.Standing.{is_of_job, task_of, win_of, winner_of, against, unwon, standing, is_over, is_published, is_publishable}
+use Rattle.mr_log_standing.specs.Standing.{is_of_job, task_of, win_of, winner_of, against, unwon, standing, is_over, is_published, is_publishable, is_publication}
 use Rattle.mr_log_standing.specs.Lawful.{are_lawful}
 use Rattle.mr_log_standing.specs.Host.{Host}
 use Rattle.mr_log_entries.specs.declared.entry.Origin.{Origin}
 use Rattle.mr_log_standing.specs.Laws.{IsLost}
 use Rattle.mr_log_standing.proofs.Lost.{won-stays, has-won, lost-stays}
-use Rattle.mr_log_standing.proofs.Jobs.{failed}
+use Rattle.mr_log_standing.proofs.Jobs.{any-stays, failed}
+use Rattle.mr_log_standing.proofs.Winning.{winner-task, win-is}
 use Rattle.mr_log_steps.specs.declared.phase.Phase.{Phase}
 use Rattle.mr_log_steps.specs.declared.phase.Phase.TheVariants.{Over}
 use Rattle.mr_log_steps.specs.Commands.{Command, own_entry, opening, next_call, outcome_in}
 use Rattle.mr_log_steps.specs.Turns.{heard}
 use Rattle.mr_log_model.specs.Worlds.{Setting, World, begun, with_command}
 use Rattle.mr_log_model.specs.Runs.{Move, Starts, Answers, Ends, Stops, Cuts, heard_by, with_call, called_by, ended, ends_with, happens, MayAnswer, MayHear, May, after, IsRun}
-use Rattle.mr_log_model.specs.Visible.{IsOutputOf, IsWhole, OutputsStay}
+use Rattle.mr_log_model.specs.Visible.{IsOutputOf, IsWhole, IsDone, OutputsStay}
 use Rattle.mr_log_model.specs.Visible as visible
 use Rattle.mr_log_model.specs.Promises.{with_last, IsFront, AreDecided, IsAbout, HasSaid, HasSaidLoss, HasSaidStart, IsAllowed, IsAmong, Promises, DecisionsStay}
 use Rattle.mr_log_model.proofs.Fronts.{front-self, front-none, front-trans, front-last, lines-more}
 use Rattle.mr_log_model.proofs.Logs.{cut-log}
 use Rattle.mr_log_model.proofs.Lawful.{decided-front, decided-rest, lawful, published-never-over, allowed-stays}
-use Rattle.mr_log_model.proofs.Invariant.{Stood, Permits, IsSo, MayShow, stage, At, Amid, AmidAny, Holds}
-use Rattle.mr_log_model.proofs.Moving.{stood-stays, amid-stays, calls-stay, PermitsAny, permitted, Turned}
+use Rattle.mr_log_model.proofs.Invariant.{Stood, Permits, IsSo, Source, MayShow, stage, At, Amid, AmidAny, Holds}
+use Rattle.mr_log_model.proofs.Moving.{stood-stays, fits-stays, amid-stays, calls-stay, PermitsAny, permitted, Turned}
 use Rattle.mr_log_model.proofs.Names.{IsNode, Every, every-map, every-left, every-turn, turns, IsTarget, IfThere, if-there-map, lasts-there}
-use Rattle.mr_log_model.proofs.Steps.{Keeps, KeepsLasting, AllShown, Whole, output-visible, all-shown-stays}
+use Rattle.mr_log_model.proofs.Steps.{Keeps, KeepsLasting, AllShown, Whole, output-visible, all-shown-stays, IsShown, is-shown-stays, win-front}
 use Rattle.mr_log_model.proofs.Answering.{keeps-any, answered}
-use Rattle.mr_log_model.proofs.Targets.{MarkerAny, marker-made}
+use Rattle.mr_log_model.proofs.Targets.{MarkerAny, marker-made, SourceOf, SourceAny, source-made}
 
 -- ---- a move
 
@@ -59,6 +61,13 @@ pub record Onward (s : Setting) (w : World) (durable : List Entry) (v : World) :
   pub calls : (x : Call) → IsAmong x w.calls → IsAmong x v.calls
   pub said : (a : Attempt) (st : Standing) → HasSaid w.said a st → HasSaid v.said a st
   pub started : (a : Attempt) → HasSaidStart w.said a → HasSaidStart v.said a
+
+source-stays : (durable more : List Entry) (from to : Place) → IsFront durable more → Source durable from to → Source more from to
+source-stays durable more from to f x = record { win = x.win; task = x.task; is = win-front durable more x.task x.win f x.is; own = x.own }
+
+-- a log that says that the job is published says so once it is longer
+published-front : (xs ys : List Entry) → IsFront xs ys → is_published (lines_of xs) ≡ true → is_published (lines_of ys) ≡ true
+published-front xs ys f e = let P : List Line → Type 0 = λ ls. is_published ls ≡ true in subst P (sym (ap lines_of f.is ∙ lines-more xs f.rest)) (any-stays is_publication (lines_of xs) (lines_of f.rest) e)
 
 -- one command is another now
 one-amid : (s : Setting) (v : Place → Moments) (durable all : List Entry) (k : ℕ) (c : Option Command) (running : ℕ → Option Command) → AmidAny s v durable all c → ((i : ℕ) → AmidAny s v durable all (running i)) → (i : ℕ) → AmidAny s v durable all (with_command k c running i)
@@ -76,9 +85,11 @@ starts s w durable last h k o host origin m = record {
   holds = record {
     log = h.log;
     decided = h.decided;
-    amid = one-amid s w.disk.names durable (with_last durable last) k (Some (opening o s.job s.folders host origin)) w.running (record { fits = record { job = refl; boot = m.1; amiss = tt }; here = front-none durable; sees = tt }) h.amid;
+    amid = one-amid s w.disk.names durable (with_last durable last) k (Some (opening o s.job s.folders host origin)) w.running (record { fits = record { job = refl; boot = m.1; amiss = tt; visible = λ e. absurd (true≢false (sym e)) }; here = front-none durable; sees = tt }) h.amid;
     early = h.early;
     marker = h.marker;
+    published = h.published;
+    sourced = h.sourced;
     allowed = h.allowed;
     said = h.said;
     started = h.started;
@@ -101,6 +112,15 @@ answers s w durable last h k answer left m = by (w.running k) (h.amid k) m
     among None p x i = h.allowed x i
     among (Some y) p x (inl e) = let P : Call → Type 0 = λ z. Permits s.job durable z in subst P e p
     among (Some y) p x (inr i) = h.allowed x i
+
+    published_now : (now : List Entry) → IsFront durable now → Keeps w.disk.names left.names → (is_published (lines_of (with_last durable last)) ≡ true) ⊎ IsShown s now left.names → IsShown s now left.names
+    published_now now f ks (inl e) = is-shown-stays s durable now w.disk.names left.names f ks.lasts (h.published e)
+    published_now now f ks (inr x) = x
+
+    sources : (y : Option Call) → SourceAny durable y → (from to : Place) → IsAmong (call.Link from to) (with_call y w.calls) → Source durable from to
+    sources None q from to i = h.sourced from to i
+    sources (Some x) q from to (inl e) = subst (SourceOf durable) e q
+    sources (Some x) q from to (inr i) = h.sourced from to i
 
     -- a name that the call made was allowed
     may : (x : Call) (p : Place) → Permits s.job durable x → IsTarget x p → MayShow s.job durable
@@ -128,7 +148,7 @@ answers s w durable last h k answer left m = by (w.running k) (h.amid k) m
     by : (c : Option Command) → AmidAny s w.disk.names durable (with_last durable last) c → MayHear s w.disk c answer left → Onward s w durable (record w { disk = left; running = with_command k (heard_by c answer) w.running; calls = called_by c w.calls })
     by None a m = absurd m
     by (Some c) a m =
-        let t : Turned s durable last left (heard c answer) = answered s durable last w.disk left c c.phase (h.log, h.decided, a.fits) a.here a.sees answer m in
+        let t : Turned s durable last left (heard c answer) = answered s durable last w.disk left c c.phase (h.log, h.decided, fits-stays s durable durable w.disk.names left.names c (front-self durable) (keeps-any s w.disk left (next_call c) answer m).lasts a.fits) a.here a.sees answer m in
         let ks : Keeps w.disk.names left.names = keeps-any s w.disk left (next_call c) answer m in
         record {
           durable_now = t.durable_now;
@@ -140,6 +160,8 @@ answers s w durable last h k answer left m = by (w.running k) (h.amid k) m
                 (λ i. amid-stays s w.disk.names left.names durable (with_last durable last) t.durable_now (with_last t.durable_now t.last_now) (w.running i) t.front t.all ks (h.amid i));
             early = early_now (next_call c) (made c a) t.durable_now t.front m;
             marker = marker_now (next_call c) (marker-made s durable w.disk.names c c.phase a.sees) t.durable_now t.front ks m;
+            published = λ e. published_now t.durable_now t.front ks (t.published e);
+            sourced = λ from to i. source-stays durable t.durable_now from to t.front (sources (next_call c) (source-made s durable w.disk.names c c.phase a.sees) from to i);
             allowed = λ x i. calls-stay s.job durable t.durable_now x t.front (among (next_call c) (made c a) x i);
             said = λ b st x. stood-stays s.job durable t.durable_now b st t.front (h.said b st x);
             started = λ b x. calls-stay s.job durable t.durable_now (call.MakeWork b) t.front (h.started b x);
@@ -169,6 +191,8 @@ ends s w durable last h k = by (w.running k) (h.amid k)
         amid = one-amid s w.disk.names durable (with_last durable last) k None w.running tt h.amid;
         early = h.early;
         marker = h.marker;
+        published = h.published;
+        sourced = h.sourced;
         allowed = h.allowed;
         said = λ b st x. at b st x;
         started = λ b x. from b x;
@@ -201,7 +225,7 @@ unfolding happens
 stops s w durable last h k = record {
   durable_now = durable;
   last_now = last;
-  holds = record { log = h.log; decided = h.decided; amid = one-amid s w.disk.names durable (with_last durable last) k None w.running tt h.amid; early = h.early; marker = h.marker; allowed = h.allowed; said = h.said; started = h.started };
+  holds = record { log = h.log; decided = h.decided; amid = one-amid s w.disk.names durable (with_last durable last) k None w.running tt h.amid; early = h.early; marker = h.marker; published = h.published; sourced = h.sourced; allowed = h.allowed; said = h.said; started = h.started };
   front = front-self durable;
   lasting = λ p v n l. l;
   calls = λ x i. i;
@@ -226,6 +250,8 @@ cuts s w durable last h left m =
             (every-map (IfThere (MayShow s.job durable)) (IfThere (MayShow s.job x.durable_now)) (w.disk.names p) (if-there-map (MayShow s.job durable) (MayShow s.job x.durable_now) (λ z. record { by = z.by; front = front-trans z.by durable x.durable_now z.front x.front; may = z.may })) (h.early p v));
         marker = every-left (IfThere (AllShown s x.durable_now left.names)) (w.disk.names Marker) (left.names Marker) (m.names Marker tt)
             (every-map (IfThere (AllShown s durable w.disk.names)) (IfThere (AllShown s x.durable_now left.names)) (w.disk.names Marker) (if-there-map (AllShown s durable w.disk.names) (AllShown s x.durable_now left.names) (all-shown-stays s durable x.durable_now w.disk.names left.names x.front lasting)) h.marker);
+        published = λ e. is-shown-stays s durable x.durable_now w.disk.names left.names x.front lasting (h.published (published-front x.durable_now (with_last durable last) x.within e));
+        sourced = λ from to i. source-stays durable x.durable_now from to x.front (h.sourced from to i);
         allowed = λ y i. calls-stay s.job durable x.durable_now y x.front (h.allowed y i);
         said = λ a st t. stood-stays s.job durable x.durable_now a st x.front (h.said a st t);
         started = λ a t. calls-stay s.job durable x.durable_now (call.MakeWork a) x.front (h.started a t);
@@ -255,8 +281,8 @@ runs-on s (m ∷ moves) w durable last h r =
     record { durable_now = more.durable_now; last_now = more.last_now; holds = more.holds; front = front-trans durable one.durable_now more.durable_now one.front more.front; lasting = λ p v n l. more.lasting p v n (one.lasting p v n l); calls = λ x i. more.calls x (one.calls x i); said = λ a st t. more.said a st (one.said a st t); started = λ a t. more.started a (one.started a t) }
 
 begun-holds : (s : Setting) → Holds s begun [] None
-unfolding AreDecided
-begun-holds s = record { log = record { names = λ n. refl }; decided = tt; amid = λ k. tt; early = λ p v. (tt, tt); marker = (tt, tt); allowed = λ x i. absurd i; said = λ a st t. absurd t; started = λ a t. absurd t }
+unfolding AreDecided lines_of
+begun-holds s = record { log = record { names = λ n. refl }; decided = tt; amid = λ k. tt; early = λ p v. (tt, tt); marker = (tt, tt); published = λ e. absurd (true≢false (sym e)); sourced = λ from to i. absurd i; allowed = λ x i. absurd i; said = λ a st t. absurd t; started = λ a t. absurd t }
 
 -- ---- what is promised
 
@@ -361,16 +387,35 @@ same-win x a b e f = cc
 may-now : (job : Job) (durable all : List Entry) → IsFront durable all → AreDecided job [] all → MayShow job durable → is_publishable job (lines_of durable) ≡ true
 may-now job durable all f ds m = allowed-later job durable all f ds call.LinkMarker (record { by = m.by; front = m.front; allows = m.may })
 
+-- where the marker is there, or the log says that the job is published
+done-shown : (s : Setting) (w : World) (durable : List Entry) (last : Option Entry) → Holds s w durable last → IsDone w durable → AllShown s durable w.disk.names
+done-shown s w durable last h (inl e) = stands-there (AllShown s durable w.disk.names) (seen w.disk Marker) e h.marker.0
+done-shown s w durable last h (inr e) = (h.published (published-front durable (with_last durable last) (front-last durable last) e)).0
+
 outputs : (s : Setting) (w v : World) (durable : List Entry) (last : Option Entry) → Holds s w durable last → Onward s w durable v → visible.Promises s w v
 outputs s w v durable last h o = record {
   durable = durable;
   last = last;
   log = h.log;
   early = λ p x e. may-now s.job durable (with_last durable last) (front-last durable last) h.decided (stands-there (MayShow s.job durable) (seen w.disk p) e (h.early p x).0);
-  whole = λ e n l. whole-now s durable w.disk n (stands-there (AllShown s durable w.disk.names) (seen w.disk Marker) e h.marker.0 n l);
-  stays = λ e n win l is p out. same n win (stands-there (AllShown s durable w.disk.names) (seen w.disk Marker) e h.marker.0 n l) is p out;
+  whose = λ from to i. let x = h.sourced from to i in record { winner = x.win.attempt; recorded = own x.win x.task x.is; own = x.own };
+  whole = λ e n l. whole-now s durable w.disk n (done-shown s w durable last h e n l);
+  stays = λ e n win l is p out. same n win (done-shown s w durable last h e n l) is p out;
+  published = marked;
+  forgotten = λ i. marked (allowed-later s.job durable (with_last durable last) (front-last durable last) h.decided call.Forget (h.allowed call.Forget i));
 }
   where
+    own : (win : Win) (t : TaskId) → win_of durable t ≡ Some win → winner_of (lines_of durable) win.attempt.task ≡ Some win.attempt
+    own win t is =
+        let e : winner_of (lines_of durable) t ≡ Some win.attempt = win-is durable t win is in
+        ap (winner_of (lines_of durable)) (winner-task (lines_of durable) t win.attempt e) ∙ e
+
+    marked : is_published (lines_of durable) ≡ true → (seen w.disk Marker ≢ None) × (seen v.disk Marker ≢ None)
+    marked e =
+        let x = (h.published (published-front durable (with_last durable last) (front-last durable last) e)).1 in
+        let later : Every (IsNode x.node) (v.disk.names Marker) = o.lasting Marker tt x.node x.every in
+        (there-not-none (seen w.disk Marker) x.node x.every.0, there-not-none (seen v.disk Marker) x.node later.0)
+
     same : (n : ℕ) (win : Win) → Whole s durable w.disk.names n → win_of durable (task_of s.job.id n) ≡ Some win → (p : Place) → IsOutputOf s win p → seen v.disk p ≡ seen w.disk p
     same n win x is p out =
         let P : Win → Type 0 = λ y. IsOutputOf s y p in

@@ -1,6 +1,7 @@
 pub mod Fronts
 pub mod Logs
 pub mod Lawful
+pub mod Publications
 pub mod Names
 pub mod Steps
 pub mod Invariant

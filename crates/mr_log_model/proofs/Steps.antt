@@ -25,7 +25,7 @@ use Rattle.mr_log_steps.specs.Lists.{shown, all_shown, shown_synced, all_shown_s
 use Rattle.mr_log_model.specs.Worlds.{Setting}
 use Rattle.mr_log_model.specs.Runs.{IsListedFolder, StandInFolders}
 use Rattle.mr_log_model.specs.Promises.{IsFront}
-use Rattle.mr_log_model.specs.Visible.{IsItemOf, IsPartOf, IsOutputOf}
+use Rattle.mr_log_model.specs.Visible.{IsItemOf, IsPartOf, IsOutputOf, LinksOwn}
 use Rattle.mr_log_model.proofs.Names.{Every, IsNode, There, Lasts}
 
 -- ---- steps that are still to be made
@@ -55,12 +55,12 @@ IsBelow (Beneath n i f) = Unit {0}
 IsBelow Marker = ⊥
 IsBelow (Inside a i f) = ⊥
 
--- what it makes, if anything, is no marker
-abbrev pub IsOwn : Step → Type 0
-IsOwn (step.Link from to file) = IsBelow to
-IsOwn (step.MakeFolder p) = IsBelow p
-IsOwn step.LinkMarker = ⊥
-IsOwn _ = Unit {0}
+-- what it makes, if anything, is no marker; what it links is the attempt's own
+abbrev pub IsOwn : Attempt → Step → Type 0
+IsOwn a (step.Link from to file) = IsBelow to × LinksOwn a from to
+IsOwn a (step.MakeFolder p) = IsBelow p
+IsOwn a step.LinkMarker = ⊥
+IsOwn a _ = Unit {0}
 
 -- nothing is made after a folder was synced
 abbrev pub IsOrdered : List Step → Type 0
@@ -105,7 +105,7 @@ pub record Progress (s : Setting) (v : Place → Moments) (win : Win) (todo : Li
   pub names : (p : Place) → IsOutputOf s win p → AnyStep (Makes p) todo ⊎ There (v p)
   pub inner : (n i f : ℕ) → IsOutputOf s win (Beneath n i f) → AnyStep (Syncs (Beneath n i f)) todo ⊎ Lasts (v (Beneath n i f))
   pub ordered : IsOrdered todo
-  pub own : AllSteps IsOwn todo
+  pub own : AllSteps (IsOwn win.attempt) todo
 
 -- what was there for good is
 abbrev pub KeepsLasting : (Place → Moments) → (Place → Moments) → Type 0
@@ -206,7 +206,7 @@ progress-file s v win file bytes e = record {
   names = λ p o. inl (inl (sym (part p o)));
   inner = λ n i f o. absurd (no-top n i f win.attempt.task.number (part (Beneath n i f) o));
   ordered = ((λ p q h m. h), tt);
-  own = (tt, tt);
+  own = ((tt, (refl, refl)), tt);
 }
   where
     part : (p : Place) → IsOutputOf s win p → p ≡ Top win.attempt.task.number
@@ -224,13 +224,13 @@ shown-item a (i ∷ more) p (inl e) = inl (by i.node)
     by node.Folder = sym e
 shown-item a (i ∷ more) p (inr h) = inr (shown-item a more p h)
 
-shown-own : (a : Attempt) (items : List Item) → AllSteps IsOwn (all_shown a items)
+shown-own : (a : Attempt) (items : List Item) → AllSteps (IsOwn a) (all_shown a items)
 unfolding all_shown
 shown-own a [] = tt
 shown-own a (i ∷ more) = (by i.node, shown-own a more)
   where
-    by : (x : Node) → IsOwn (shown a i x)
-    by (node.File f) = tt
+    by : (x : Node) → IsOwn a (shown a i x)
+    by (node.File f) = (tt, (refl, refl, refl, refl))
     by node.Folder = tt
 
 shown-ordered : (a : Attempt) (items : List Item) (ys : List Step) → IsOrdered ys → IsOrdered (all_shown a items ++ ys)
@@ -242,12 +242,12 @@ shown-ordered a (i ∷ more) ys h = ((λ p q e m. by i.node p e), shown-ordered 
     by (node.File f) p e = e
     by node.Folder p e = e
 
-synced-own : (n : ℕ) (items : List Item) → AllSteps IsOwn (all_shown_synced n items)
+synced-own : (a : Attempt) (n : ℕ) (items : List Item) → AllSteps (IsOwn a) (all_shown_synced n items)
 unfolding all_shown_synced
-synced-own n [] = tt
-synced-own n (i ∷ more) = all-both IsOwn (all_shown_synced n more) (shown_synced n i i.node) (synced-own n more) (by i.node)
+synced-own a n [] = tt
+synced-own a n (i ∷ more) = all-both (IsOwn a) (all_shown_synced n more) (shown_synced n i i.node) (synced-own a n more) (by i.node)
   where
-    by : (x : Node) → AllSteps IsOwn (shown_synced n i x)
+    by : (x : Node) → AllSteps (IsOwn a) (shown_synced n i x)
     by (node.File f) = tt
     by node.Folder = (tt, tt)
 
@@ -300,8 +300,8 @@ syncs-make t items q h = by (any-split (Makes q) (all_shown_synced t items) (ste
     by (inr (inl k)) = k
     by (inr (inr k)) = k
 
-syncs-own : (t : ℕ) (items : List Item) → AllSteps IsOwn (syncs_of t items)
-syncs-own t items = all-both IsOwn (all_shown_synced t items) (step.SyncFolder (folder.Beneath t 0) ∷ []) (synced-own t items) (tt, tt)
+syncs-own : (a : Attempt) (t : ℕ) (items : List Item) → AllSteps (IsOwn a) (syncs_of t items)
+syncs-own a t items = all-both (IsOwn a) (all_shown_synced t items) (step.SyncFolder (folder.Beneath t 0) ∷ []) (synced-own a t items) (tt, tt)
 
 syncs-listed : (t i f : ℕ) (items : List Item) → IsListedFolder f items → AnyStep (Syncs (Beneath t i f)) (syncs_of t items)
 syncs-listed t i f items h = by (listed-synced t i f items h)
@@ -330,7 +330,7 @@ progress-folder s v win bytes items e same stand = record {
   names = λ p o. inl (folder-made win.attempt items p (part p o));
   inner = λ n i f o. inl (folder-synced win.attempt items stand n i f (part (Beneath n i f) o));
   ordered = ((λ p q h m. h), shown-ordered win.attempt items (syncs_of win.attempt.task.number items) (ordered-none (syncs_of win.attempt.task.number items) (syncs-make win.attempt.task.number items)));
-  own = (tt, all-both IsOwn (all_shown win.attempt items) (syncs_of win.attempt.task.number items) (shown-own win.attempt items) (syncs-own win.attempt.task.number items));
+  own = (tt, all-both (IsOwn win.attempt) (all_shown win.attempt items) (syncs_of win.attempt.task.number items) (shown-own win.attempt items) (syncs-own win.attempt win.attempt.task.number items));
 }
   where
     part : (p : Place) → IsOutputOf s win p → IsOfFolder win.attempt.task.number items p
@@ -422,6 +422,36 @@ each-won job es p n l =
     let w = has-win es (task_of job.id n) a.0 a.1 in
     (w.0, w.1)
 
+-- ---- recorded winners
+
+pub record IsWin (durable : List Entry) (w : Win) : Type 0 where
+  pub task : TaskId
+  pub is : win_of durable task ≡ Some w
+
+abbrev pub AreWins : List Entry → List Win → Type 0
+AreWins durable [] = Unit {0}
+AreWins durable (w ∷ ws) = IsWin durable w × AreWins durable ws
+
+pub are-wins-stay : (durable more : List Entry) (ws : List Win) → IsFront durable more → AreWins durable ws → AreWins more ws
+are-wins-stay durable more [] f h = tt
+are-wins-stay durable more (w ∷ ws) f h = (record { task = h.0.task; is = win-front durable more h.0.task w f h.0.is }, are-wins-stay durable more ws f h.1)
+
+wins-both : (durable : List Entry) (xs ys : List Win) → AreWins durable xs → AreWins durable ys → AreWins durable (xs ++ ys)
+wins-both durable [] ys h k = k
+wins-both durable (x ∷ xs) ys h k = (h.0, wins-both durable xs ys h.1 k)
+
+are-wins : (job : Job) (es : List Entry) (n : ℕ) → AreWins es (wins job es n)
+unfolding wins
+are-wins job es zero = tt
+are-wins job es (suc n) = by (win_of es (task_of job.id n)) refl (are-wins job es n)
+  where
+    by : (o : Option Win) → win_of es (task_of job.id n) ≡ o → AreWins es (wins job es n) → AreWins es (with_win (wins job es n) o)
+    by None e h = h
+    by (Some w) e h = wins-both es (wins job es n) (w ∷ []) h (record { task = task_of job.id n; is = e }, tt)
+
+pub are-wins-all : (job : Job) (durable es : List Entry) → IsFront es durable → AreWins durable (wins job es job.tasks)
+are-wins-all job durable es f = are-wins-stay es durable (wins job es job.tasks) f (are-wins job es job.tasks)
+
 -- where nothing was published yet, all winners are to be
 pub to-show-all : (s : Setting) (durable es : List Entry) (v : Place → Moments) → IsFront es durable → is_publishable s.job (lines_of es) ≡ true → ToShow s durable v (wins s.job es s.job.tasks)
 to-show-all s durable es v f p n l =
@@ -438,7 +468,14 @@ pub record Whole (s : Setting) (durable : List Entry) (v : Place → Moments) (n
 abbrev pub AllShown : Setting → List Entry → (Place → Moments) → Type 0
 AllShown s durable v = (n : ℕ) → n < s.job.tasks → Whole s durable v n
 
+-- and so is the marker
+abbrev pub IsShown : Setting → List Entry → (Place → Moments) → Type 0
+IsShown s durable v = AllShown s durable v × Lasts (v Marker)
+
 pub all-shown-stays : (s : Setting) (durable more : List Entry) (v u : Place → Moments) → IsFront durable more → KeepsLasting v u → AllShown s durable v → AllShown s more u
 all-shown-stays s durable more v u f k h n l =
     let x = h n l in
     record { win = x.win; is = win-front durable more (task_of s.job.id n) x.win f x.is; each = λ p o. still v u k p (output-visible s x.win p o) (x.each p o) }
+
+pub is-shown-stays : (s : Setting) (durable more : List Entry) (v u : Place → Moments) → IsFront durable more → KeepsLasting v u → IsShown s durable v → IsShown s more u
+is-shown-stays s durable more v u f k h = (all-shown-stays s durable more v u f k h.0, still v u k Marker tt h.1)

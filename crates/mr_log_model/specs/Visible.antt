@@ -1,21 +1,23 @@
 -- What is promised of the visible names: nothing too early, and where the marker is, all of it, for good. That a job's output is whole where its marker is
 -- there is what the committer document promises of a job's commit.
 use Rattle.std.specs.Prelude.{◌≡◌, ◌≢◌, ◌⊎◌, ◌<◌, ℕ, true, List, [], ◌∷◌, Option, Some, None}
+use Rattle.mr_ids.specs.Attempt.{Attempt}
 use Rattle.mr_log_entries.specs.declared.line.Handed.{Handed}
 use Rattle.mr_log_entries.specs.declared.line.Handed.TheVariants as handed
 use Rattle.mr_log_entries.specs.declared.entry.Entry.{Entry}
 use Rattle.mr_log_entries.specs.Recorded.{lines_of}
 use Rattle.mr_log_disk.specs.declared.place.Item.{Item}
 use Rattle.mr_log_disk.specs.declared.place.Place.{Place}
-use Rattle.mr_log_disk.specs.declared.place.Place.TheVariants.{Top, Beneath, Marker}
+use Rattle.mr_log_disk.specs.declared.place.Place.TheVariants.{Top, Beneath, Marker, Inside}
+use Rattle.mr_log_disk.specs.declared.call.Call.TheVariants as call
 use Rattle.mr_log_disk.specs.Names.{IsVisible}
 use Rattle.mr_log_disk.specs.Log.{Disk}
 use Rattle.mr_log_disk.specs.Calls.{seen}
 use Rattle.mr_log_standing.specs.declared.standing.Win.{Win}
-use Rattle.mr_log_standing.specs.Standing.{task_of, win_of, is_publishable}
+use Rattle.mr_log_standing.specs.Standing.{task_of, win_of, winner_of, is_published, is_publishable}
 use Rattle.mr_log_model.specs.Worlds.{Setting, World, begun}
 use Rattle.mr_log_model.specs.Runs.{Move, after, IsRun}
-use Rattle.mr_log_model.specs.Promises.{IsLog}
+use Rattle.mr_log_model.specs.Promises.{IsLog, IsAmong}
 
 -- the names of what is in a folder that was handed in
 abbrev pub IsItemOf : ℕ → List Item → Place → Type 0
@@ -36,6 +38,22 @@ pub record IsWhole (s : Setting) (durable : List Entry) (d : Disk) (n : ℕ) : T
   pub is : win_of durable (task_of s.job.id n) ≡ Some win
   pub each : (p : Place) → IsOutputOf s win p → seen d p ≢ None
 
+-- a name within the attempt's folder, and the visible name that belongs to it
+abbrev pub LinksOwn : Attempt → Place → Place → Type 0
+LinksOwn a (Inside b i f) (Top n) = (b ≡ a) × (n ≡ a.task.number)
+LinksOwn a (Inside b i f) (Beneath n j g) = (b ≡ a) × (n ≡ a.task.number) × (j ≡ i) × (g ≡ f)
+LinksOwn a _ _ = ⊥
+
+-- what is linked so is the recorded winner's
+pub record IsWinners (durable : List Entry) (from to : Place) : Type 0 where
+  pub winner : Attempt
+  pub recorded : winner_of (lines_of durable) winner.task ≡ Some winner
+  pub own : LinksOwn winner from to
+
+-- the marker is there, or the log says that the job is published
+abbrev pub IsDone : World → List Entry → Type 0
+IsDone w durable = (seen w.disk Marker ≢ None) ⊎ (is_published (lines_of durable) ≡ true)
+
 -- What holds of a world w, and of any later one v.
 pub record Promises (s : Setting) (w v : World) : Type 0 where
   pub durable : List Entry
@@ -43,10 +61,15 @@ pub record Promises (s : Setting) (w v : World) : Type 0 where
   pub log : IsLog w.disk durable last
   -- nothing is visible unless the job may be published by durable entries: under hold, not before that was decided
   pub early : (p : Place) → IsVisible p → seen w.disk p ≢ None → is_publishable s.job (lines_of durable) ≡ true
-  -- where the marker is there, each task's whole output is
-  pub whole : seen w.disk Marker ≢ None → (n : ℕ) → n < s.job.tasks → IsWhole s durable w.disk n
+  -- what is linked to a visible name is the recorded winner's
+  pub whose : (from to : Place) → IsAmong (call.Link from to) w.calls → IsWinners durable from to
+  -- where the marker is there, or the log says that the job is published, each task's whole output is there
+  pub whole : IsDone w durable → (n : ℕ) → n < s.job.tasks → IsWhole s durable w.disk n
   -- and then nothing of it is another later
-  pub stays : seen w.disk Marker ≢ None → (n : ℕ) (win : Win) → n < s.job.tasks → win_of durable (task_of s.job.id n) ≡ Some win → (p : Place) → IsOutputOf s win p → seen v.disk p ≡ seen w.disk p
+  pub stays : IsDone w durable → (n : ℕ) (win : Win) → n < s.job.tasks → win_of durable (task_of s.job.id n) ≡ Some win → (p : Place) → IsOutputOf s win p → seen v.disk p ≡ seen w.disk p
+  -- where the log says so, or was forgotten, the marker is there, and stays
+  pub published : is_published (lines_of durable) ≡ true → (seen w.disk Marker ≢ None) × (seen v.disk Marker ≢ None)
+  pub forgotten : IsAmong call.Forget w.calls → (seen w.disk Marker ≢ None) × (seen v.disk Marker ≢ None)
 
 -- After every list of moves that begins with what an honest `begin` left, and any more moves.
 abbrev pub OutputsStay : Type 0

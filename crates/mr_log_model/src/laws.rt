@@ -12,9 +12,11 @@ pub fn decisions_stay()
     ensures { DecisionsStay }
 {}
 
-/// Nothing is visible unless the job may be published by durable entries: under hold, not before that was decided. Where the
-/// marker is, the whole output of each task is: each name of what its recorded winner handed in. And none of these is
-/// another later, whatever power cuts come.
+/// Nothing is visible unless the job may be published by durable entries: under hold, not before that was decided. What is
+/// linked to a visible name is from the folder of its task's recorded winner. Where the marker is, or the log says that the
+/// job is published, the whole output of each task is visible: each name of what its recorded winner handed in; and none of
+/// these is another later, whatever power cuts come. Where the log says that the job is published, or was forgotten, the
+/// marker is there, and stays.
 pub fn outputs_stay()
     ensures { OutputsStay }
 {}

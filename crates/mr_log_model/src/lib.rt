@@ -8,9 +8,11 @@
 //!
 //! What commands make and remove is promised by their calls: none is made that durable entries do not allow for good.
 //!
-//! `outputs_stay`: of such runs too. Nothing is visible unless the job may be published by durable entries. Where the
-//! marker is, the whole output of each task is, and no name of it is another later, whatever power cuts come. Of a folder
-//! that was handed in, all that its list has is its output; a list that is read is the one that was written.
+//! `outputs_stay`: of such runs too. Nothing is visible unless the job may be published by durable entries, and what is
+//! linked is from the folder of the recorded winner. Where the marker is, or the log says that the job is published, the
+//! whole output of each task is visible, and no name of it is another later, whatever power cuts come. Once the log is
+//! forgotten, that is so for good. Of a folder that was handed in, all that its list has is its output; a list that is read
+//! is the one that was written.
 //!
 //! Not claimed: which files are behind the names, and that they are whole; that a command ends, and time; a disk whose
 //! power is cut while the commands go on (a server's).
