@@ -1,10 +1,10 @@
 -- The lines that begin attempts are lawful.
-use Rattle.std.proofs.Common.{◌≡◌, ◌<◌, ◌≤◌, ◌+◌, ℕ, zero, suc, Bool, true, false, not, ◌&&◌, ◌||◌, cond, nat_lt, count_by, filter, map, take, flat_map, length, List, [], ◌∷◌, ◌++◌, Option, Some, None, is_some, refl, sym, ap, subst, ◌∙◌, append_assoc, append-nil, arith, le_refl}
+use Rattle.std.proofs.Common.{◌≡◌, ◌<◌, ◌≤◌, ℕ, zero, suc, Bool, true, false, not, ◌&&◌, cond, nat_lt, count_by, map, flat_map, length, List, [], ◌∷◌, ◌++◌, Option, Some, None, is_some, refl, sym, ap, subst, ◌∙◌, append_assoc, append-nil, arith, le_refl}
 use Rattle.std.specs.List.{AllByRecursion}
 use Rattle.std.proofs.lemmas.List.Concat.{flat_map-append}
-use Rattle.std.proofs.lemmas.Bool.{ltb-true, lt-ltb}
+use Rattle.std.proofs.lemmas.Bool.{lt-ltb}
 use Rattle.mr_ids.specs.Attempt.{Attempt}
-use Rattle.mr_ids.specs.Same.{same_task, same_attempt}
+use Rattle.mr_ids.specs.Same.{same_task}
 use Rattle.mr_ids.specs.declared.id.TaskId.{TaskId}
 use Rattle.mr_ids.proofs.Same.{same_attempt-itself, task-itself}
 use Rattle.mr_log_entries.specs.declared.line.Line.{Line}
@@ -16,16 +16,16 @@ use Rattle.mr_log_standing.specs.declared.order.Order.{Order}
 use Rattle.mr_log_standing.specs.declared.order.Order.TheVariants as order
 use Rattle.mr_log_standing.specs.declared.order.Outcome.TheVariants as outcome
 use Rattle.mr_log_standing.specs.declared.decision.Decision.{Decision}
-use Rattle.mr_log_standing.specs.declared.decision.Decision.TheVariants.{Ends, Publishes, HandsIn, Puts, Begins, Forgets}
+use Rattle.mr_log_standing.specs.declared.decision.Decision.TheVariants.{Ends, Puts}
 use Rattle.mr_log_standing.specs.declared.decision.Conclusion.{Conclusion}
 use Rattle.mr_log_standing.specs.declared.decision.Conclusion.TheVariants.{Succeeded, Failed, Interrupted}
 use Rattle.mr_log_standing.specs.Host.{Host}
-use Rattle.mr_log_standing.specs.Standing.{task_of, is_of_job, winner_of, has_winner, is_over, those_below, standing, is_under_way, under_way, is_start_at, numbered, next_attempt, is_cut_off}
-use Rattle.mr_log_standing.specs.Deciding.{ends, reaches, failing, fails, under_way_below, cut_off, alive, is_none, is_idle, idle, started, beginning, then_begins, begins, settles, begins_first, begins_those, begins_all, at_task, begins_next_to, given_up, begins_over, in_one_entry, hands_in, of_attempt, decided, conclusion, concluded}
-use Rattle.mr_log_standing.specs.Lawful.{is_that, is_lawful, are_lawful}
+use Rattle.mr_log_standing.specs.Standing.{task_of, is_of_job, winner_of, has_winner, is_over, those_below, under_way, is_start_at, numbered, next_attempt, is_cut_off}
+use Rattle.mr_log_standing.specs.Deciding.{ends, reaches, under_way_below, cut_off, alive, is_none, is_idle, idle, started, beginning, then_begins, begins, begins_first, begins_those, begins_all, at_task, begins_next_to, given_up, begins_over, in_one_entry, hands_in, decided, concluded}
+use Rattle.mr_log_standing.specs.Lawful.{is_that, are_lawful}
 use Rattle.mr_log_standing.specs.Laws.{IsOpen}
-use Rattle.mr_log_standing.proofs.Lost.{both, under-way}
-use Rattle.mr_log_standing.proofs.Following.{and-true, lawful-both, lawful-take, lawful-one, lawful-none, IsMild, mild-append, mild-weaker, still-none, still-on, still-next, all-filter, all-open, all-open-below, all-take, not-some, mild-failed, mild-interrupted, failed-lawful, interrupted-lawful, end-lawful, reaches-none, failing-lawful, IsFit, fit-if, fit-ends, fit-of, fit-fails, fit-done, fit-fail, fit-fails-task, fit-aborts, fit-releases, fit-forgets, fit-settles}
+use Rattle.mr_log_standing.proofs.Lost.{under-way}
+use Rattle.mr_log_standing.proofs.Following.{and-true, lawful-both, lawful-take, lawful-one, lawful-none, IsMild, mild-append, mild-weaker, still-none, still-on, still-next, all-filter, all-open, all-open-below, all-take, not-some, mild-failed, mild-interrupted, failed-lawful, interrupted-lawful, end-lawful, reaches-none, IsFit, fit-if, fit-ends, fit-of, fit-fails, fit-done, fit-fail, fit-fails-task, fit-aborts, fit-releases, fit-forgets, fit-settles}
 
 -- the task has no winner, in a job that goes on
 record IsReady (job : Job) (es : List Entry) (n : ℕ) : Type 0 where

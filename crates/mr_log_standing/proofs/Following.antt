@@ -1,34 +1,28 @@
 -- What is decided from exactly the lines before it is lawful there.
-use Rattle.std.proofs.Common.{◌≡◌, ◌<◌, ◌≤◌, ◌+◌, ℕ, zero, suc, Bool, true, false, not, ◌&&◌, ◌||◌, cond, nat_lt, count_by, filter, map, take, drop, flat_map, length, List, [], ◌∷◌, ◌++◌, Option, Some, None, is_some, refl, sym, ap, subst, ◌∙◌, append_assoc, append-nil, take-append-drop, arith, lt_irrefl}
-use Rattle.std.specs.List.{list_any, filter_map, AllByRecursion}
+use Rattle.std.proofs.Common.{◌≡◌, ◌<◌, ◌≤◌, ◌+◌, ℕ, zero, suc, Bool, true, false, not, ◌&&◌, ◌||◌, cond, nat_lt, count_by, filter, map, take, drop, List, [], ◌∷◌, ◌++◌, Option, Some, None, is_some, refl, sym, ap, subst, ◌∙◌, append_assoc, append-nil, take-append-drop, arith}
+use Rattle.std.specs.List.{AllByRecursion}
 use Rattle.std.proofs.lemmas.List.Folds.{list_any-append}
 use Rattle.std.proofs.lemmas.List.Sums.{sum_by-append, sum_by-cons}
-use Rattle.std.proofs.lemmas.List.Concat.{flat_map-append}
 use Rattle.std.proofs.lemmas.Bool.{ltb-true}
 use Rattle.mr_ids.specs.Attempt.{Attempt}
-use Rattle.mr_ids.specs.Same.{same_task, same_attempt}
-use Rattle.mr_ids.specs.declared.id.JobId.{JobId}
+use Rattle.mr_ids.specs.Same.{same_task}
 use Rattle.mr_ids.specs.declared.id.TaskId.{TaskId}
-use Rattle.mr_ids.proofs.Same.{same_attempt-itself, task-is, task-itself}
+use Rattle.mr_ids.proofs.Same.{task-is}
 use Rattle.mr_log_entries.specs.declared.line.Line.{Line}
 use Rattle.mr_log_entries.specs.declared.line.Line.TheVariants as line
 use Rattle.mr_log_entries.specs.declared.entry.Entry.{Entry}
 use Rattle.mr_log_entries.specs.Recorded.{lines_of}
 use Rattle.mr_log_standing.specs.declared.job.Job.{Job}
-use Rattle.mr_log_standing.specs.declared.order.Order.{Order}
-use Rattle.mr_log_standing.specs.declared.order.Order.TheVariants as order
 use Rattle.mr_log_standing.specs.declared.order.Outcome.{Outcome}
 use Rattle.mr_log_standing.specs.declared.order.Outcome.TheVariants as outcome
 use Rattle.mr_log_standing.specs.declared.decision.Decision.{Decision}
-use Rattle.mr_log_standing.specs.declared.decision.Decision.TheVariants.{Ends, Publishes, HandsIn, Puts, Begins, Forgets}
-use Rattle.mr_log_standing.specs.declared.decision.Conclusion.{Conclusion}
-use Rattle.mr_log_standing.specs.declared.decision.Conclusion.TheVariants.{Succeeded, Failed, Interrupted}
+use Rattle.mr_log_standing.specs.declared.decision.Decision.TheVariants.{Ends, Publishes, HandsIn, Puts, Forgets}
 use Rattle.mr_log_standing.specs.Host.{Host}
-use Rattle.mr_log_standing.specs.Standing.{task_of, is_of_job, ends_job, start_at, is_start_at, success_at, first_or, winner_of, has_winner, failures, is_over, is_released, is_published, those_below, is_left, left, is_none_of, has_won_all, is_publishable, may_end, standing, is_under_way, started_at, under_way, numbered, next_attempt, is_this, is_cut_off, begun_in}
-use Rattle.mr_log_standing.specs.Deciding.{in_one_entry, ends, reaches, with_end, failing, fails, under_way_below, cut_off, alive, is_idle, idle, started, beginning, then_begins, begins, settles, begins_first, begins_those, begins_all, at_task, begins_next_to, given_up, begins_over, hands_in, of_attempt, fails_task, aborts, releases_job, forgets, decided, conclusion, concluded, lines_put}
-use Rattle.mr_log_standing.specs.Lawful.{is_that, is_lawful, are_lawful}
+use Rattle.mr_log_standing.specs.Standing.{task_of, is_of_job, ends_job, is_start_at, winner_of, is_over, is_released, is_published, is_left, left, has_won_all, is_publishable, may_end, standing, is_under_way, started_at, under_way, numbered, next_attempt, is_this, begun_in}
+use Rattle.mr_log_standing.specs.Deciding.{in_one_entry, ends, reaches, with_end, failing, fails, under_way_below, settles, hands_in, of_attempt, fails_task, aborts, releases_job, forgets, lines_put}
+use Rattle.mr_log_standing.specs.Lawful.{is_lawful, are_lawful}
 use Rattle.mr_log_standing.specs.Laws.{IsOpen}
-use Rattle.mr_log_standing.proofs.Winning.{winner-decided, winner-both}
+use Rattle.mr_log_standing.proofs.Winning.{winner-decided}
 use Rattle.mr_log_standing.proofs.Below.{none-passes}
 use Rattle.mr_log_standing.proofs.Lost.{Both, both, under-way}
 use Rattle.mr_log_standing.proofs.Once.{one_if}

@@ -5,3 +5,8 @@ pub mod Once
 pub mod Jobs
 pub mod Following
 pub mod Beginning
+pub mod Noted
+pub mod Same
+pub mod Keeping
+pub mod Asked
+pub mod Counting

@@ -4,3 +4,5 @@ pub mod Standing
 pub mod Deciding
 pub mod Lawful
 pub mod Laws
+pub mod Front
+pub mod inner

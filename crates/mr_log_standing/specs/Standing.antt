@@ -153,6 +153,17 @@ is_under_way _ = false
 abbrev pub under_way : Job → List Line → TaskId → List Attempt
 under_way job ls t = filter (λ a. is_under_way (standing job ls a)) (started_at ls t)
 
+abbrev pub is_nobody : List Attempt → Bool
+is_nobody [] = true
+is_nobody (a ∷ more) = false
+
+abbrev pub is_run : Job → List Line → ℕ → Bool
+is_run job ls n = not (is_nobody (under_way job ls (task_of job.id n)))
+
+-- the numbers of the tasks at which an attempt is under way
+unfoldable pub run : Job → List Line → List ℕ
+run job ls = those_below (is_run job ls) job.tasks
+
 -- The attempt at a task that comes next, where there is room for one. Their numbers, from 0, are those of Hadoop's attempts at a task; that there are
 -- at most as many as there are numbers is our own.
 abbrev pub numbered : TaskId → ℕ → Option Attempt

@@ -1,0 +1,15 @@
+use Rattle.std.proofs.Common.{ℕ, sym, ◌∙◌}
+use Rattle.mr_log_standing.specs.inner.Notes.{boot_in}
+use Rattle.mr_log_standing.proofs.Noted.{stops, passes, at-end}
+use Rattle.mr_log_standing.proofs.notes.begun_in.Goals as goal
+
+pub returns-in-Some : goal.returns-in-Some
+returns-in-Some c =
+    sym (c.loop-item.invariant ∙ stops ℕ (boot_in c.args.a.now) c.args.notes.now c.loop-item.item-index c.item-item.result c.in-Some.boot c.loop-item-test.true c.item-item.is (sym c.in-Some.ensures))
+
+pub loop-item-preserved : goal.loop-item-preserved
+loop-item-preserved c =
+    c.loop-item.invariant ∙ passes ℕ (boot_in c.args.a.now) c.args.notes.now c.loop-item.item-index c.item-item.result c.loop-item-test.true c.item-item.is (sym c.in_default.ensures)
+
+pub returns : goal.returns
+returns c = sym (c.loop-item.invariant ∙ at-end ℕ (boot_in c.args.a.now) c.args.notes.now c.loop-item.item-index c.loop-item-test.false)

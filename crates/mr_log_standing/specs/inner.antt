@@ -1,0 +1,3 @@
+-- Words that only private functions speak of.
+pub mod Notes
+pub mod Kept
