@@ -10,3 +10,4 @@ pub mod Same
 pub mod Keeping
 pub mod Asked
 pub mod Counting
+pub mod Choosings

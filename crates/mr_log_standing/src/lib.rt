@@ -23,6 +23,7 @@
 #![tactic(auto)]
 
 mod attempts;
+mod deciding;
 mod decision;
 mod host;
 mod job;

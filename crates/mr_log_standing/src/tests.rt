@@ -1,5 +1,5 @@
 //! Each public call once with ample memory, and the worked rows.
-use crate::{Job, Standing, Standings};
+use crate::{Attempts, Job, Standing, Standings, Win};
 use mr_ids::{AttemptId, JobId, TaskId, TaskKind};
 use mr_log_entries::{Entry, Handed, Line, Lines, Origin};
 use std::alloc::Global;
@@ -95,6 +95,54 @@ fn worked(rt: &impl Abort, alloc: Global) -> Standings {
     after(rt, alloc, log, 6, 4, &[won])
 }
 
+fn win(log: &Standings, n: u32) -> Option<Win> {
+    if n < log.job().tasks {
+        log.win(n)
+    } else {
+        None
+    }
+}
+
+fn winner(log: &Standings, n: u32) -> Option<AttemptId> {
+    if n < log.job().tasks {
+        log.winner(n)
+    } else {
+        None
+    }
+}
+
+fn next_attempt(log: &Standings, n: u32) -> Option<AttemptId> {
+    if n < log.job().tasks {
+        log.next_attempt(n)
+    } else {
+        None
+    }
+}
+
+fn failures(log: &Standings, n: u32) -> usize {
+    if n < log.job().tasks {
+        log.failures(n)
+    } else {
+        99
+    }
+}
+
+fn begun_in(log: &Standings, a: &AttemptId) -> Option<u64> {
+    if log.is_of_job(a) {
+        log.begun_in(a)
+    } else {
+        None
+    }
+}
+
+fn under_way(rt: &impl Abort, log: &Standings, alloc: Global, n: u32) -> Attempts {
+    if n < log.job().tasks {
+        log.under_way(alloc, n).expect(rt, "no memory")
+    } else {
+        Attempts::new(alloc)
+    }
+}
+
 #[test]
 fn attempts_stand_as_recorded(rt: HostRuntime) {
     let rt = &rt;
@@ -161,38 +209,43 @@ fn attempts_stand_as_recorded(rt: HostRuntime) {
 fn tasks_stand_as_recorded(rt: HostRuntime) {
     let rt = &rt;
     let log = worked(rt, rt.alloc());
-    let win = log.win(0).expect(rt, "no winner");
+    let win = win(&log, 0).expect(rt, "no winner");
     alike(rt, &win.attempt, &attempt(rt, 0, 1), "the winner of task 0");
     alike(rt, &win.handed, &FILE, "what it handed in");
     alike(rt, &win.id, &4, "the id of its entry");
-    alike(rt, &log.winner(1).is_none(), &true, "task 1 has no winner");
     alike(
         rt,
-        &log.begun_in(&attempt(rt, 1, 0)),
+        &winner(&log, 1).is_none(),
+        &true,
+        "task 1 has no winner",
+    );
+    alike(
+        rt,
+        &begun_in(&log, &attempt(rt, 1, 0)),
         &Some(5),
         "the boot of the first attempt",
     );
     alike(
         rt,
-        &log.begun_in(&attempt(rt, 1, 1)),
+        &begun_in(&log, &attempt(rt, 1, 1)),
         &Some(6),
         "the boot of the second attempt",
     );
     alike(
         rt,
-        &log.begun_in(&attempt(rt, 1, 2)),
+        &begun_in(&log, &attempt(rt, 1, 2)),
         &None,
         "nothing was begun",
     );
-    alike(rt, &log.failures(0), &1, "one failure");
-    alike(rt, &log.failures(1), &0, "who is cut off has not failed");
+    alike(rt, &failures(&log, 0), &1, "one failure");
+    alike(rt, &failures(&log, 1), &0, "who is cut off has not failed");
     alike(
         rt,
-        &log.next_attempt(1),
+        &next_attempt(&log, 1),
         &Some(attempt(rt, 1, 2)),
         "the next attempt",
     );
-    let running = log.under_way(rt.alloc(), 1).expect(rt, "no memory");
+    let running = under_way(rt, &log, rt.alloc(), 1);
     alike(rt, &running.as_slice().len(), &1, "one is under way");
     drop(running);
     drop(log);
