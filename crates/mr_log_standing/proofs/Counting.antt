@@ -29,7 +29,7 @@ failed_more p n e = one_more p n ∙ ap (λ m. those_below p n ++ cond m (n ∷ 
 
 -- ---- who is under way
 
-any-picked : (f : Note → Option Attempt) (ns : List Note) → list_any (λ n. is_some (f n)) ns ≡ not (is_nobody (filter_map f ns))
+pub any-picked : (f : Note → Option Attempt) (ns : List Note) → list_any (λ n. is_some (f n)) ns ≡ not (is_nobody (filter_map f ns))
 any-picked f [] = refl
 any-picked f (n ∷ ns) = by (f n) (any-picked f ns)
   where

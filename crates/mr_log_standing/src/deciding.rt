@@ -3,21 +3,23 @@ ghost use Rattle.std.specs.Prelude.{Option, ◌≡◌, ◌++◌, ◌∷◌, [], 
 ghost use Rattle.std.specs.List.{AllByRecursion};
 ghost use Rattle.mr_log_entries.specs.Recorded.{lines_of};
 ghost use Rattle.mr_log_standing.specs.Standing.{failures, is_failure_at, has_won_all, is_publishable, may_end, is_over, is_released, is_published, standing, is_under_way};
-ghost use Rattle.mr_log_standing.specs.Deciding.{concluded, conclusion, ends, reaches, with_end, failing, hands_in, of_attempt, aborts, releases_job, forgets};
+ghost use Rattle.mr_log_standing.specs.Deciding.{decided, concluded, conclusion, ends, reaches, with_end, failing, hands_in, of_attempt, aborts, releases_job, forgets};
+ghost use Rattle.mr_log_standing.specs.Host.{Host};
 ghost use Rattle.mr_log_standing.specs.inner.Choosing.{IsMine};
 
 use crate::attempts::Attempts;
 use crate::decision::{Conclusion, Decision};
 use crate::host::Host;
 use crate::notes;
-use crate::order::Outcome;
+use crate::order::{Order, Outcome};
 use crate::standings::Standings;
 use mr_ids::{AttemptId, TaskId};
 use mr_log_entries::{Line, Lines};
 use std::alloc::{AllocError, Global};
 
 impl Standings {
-    fn ends(&self, outcome: Outcome) -> Decision
+    /// The end of an order that has nothing to put: what there is to publish is published first.
+    pub fn ends(&self, outcome: Outcome) -> Decision
         ensures { result ≡ ends self.now.job (lines_of self.now.entries) outcome }
     {
         if self.is_publishable() && !self.is_published() {
@@ -27,8 +29,11 @@ impl Standings {
         }
     }
 
-    fn forget(&self) -> Decision
-        ensures { result ≡ forgets self.now.job (lines_of self.now.entries) }
+    /// What `Forget` decides: the log of a published job is forgotten, with all else that the commands keep.
+    #[tactic(auto, unfolding(crate::specs::Deciding::decided))]
+    pub fn forget(&self) -> Decision
+        ensures { (host : Host) →
+            result ≡ decided Order.Forget self.now.job host self.now.entries }
     {
         if self.is_published() {
             Decision::Forgets
@@ -37,8 +42,11 @@ impl Standings {
         }
     }
 
-    fn abort(&self, alloc: Global) -> Result<Decision, AllocError>
-        ensures { IfOk result (λ d. d ≡ aborts self.now.job (lines_of self.now.entries)) }
+    /// What `Abort` decides: the job is ended as failed, unless it is published or will be. Memory may be refused.
+    #[tactic(auto, unfolding(crate::specs::Deciding::decided))]
+    pub fn abort(&self, alloc: Global) -> Result<Decision, AllocError>
+        ensures { IfOk result (λ d. (host : Host) →
+            d ≡ decided Order.Abort self.now.job host self.now.entries) }
     {
         if self.is_over() {
             return Ok(Decision::Ends(Outcome::Finished));
@@ -49,8 +57,11 @@ impl Standings {
         Ok(self.ends(Outcome::AllWon))
     }
 
-    fn release(&self, alloc: Global) -> Result<Decision, AllocError>
-        ensures { IfOk result (λ d. d ≡ releases_job self.now.job (lines_of self.now.entries)) }
+    /// What `Publish` decides: a held job is published, if all of its tasks are won. Memory may be refused.
+    #[tactic(auto, unfolding(crate::specs::Deciding::decided))]
+    pub fn publish(&self, alloc: Global) -> Result<Decision, AllocError>
+        ensures { IfOk result (λ d. (host : Host) →
+            d ≡ decided Order.Publish self.now.job host self.now.entries) }
     {
         if self.is_over() {
             return Ok(Decision::Ends(Outcome::JobOver));
@@ -73,11 +84,10 @@ impl Standings {
         self.ends(Outcome::Stands(self.standing(a)))
     }
 
-    #[tactic(auto, using(crate::proofs::Choosings::open_of_job))]
-    fn done(&self, host: &Host, a: &AttemptId) -> Decision
-        ensures { let ls = lines_of self.now.entries in
-            result ≡ of_attempt self.now.job ls a.now
-            (hands_in self.now.job host.now self.now.entries a.now) }
+    /// What `Done` decides on this host: an attempt that is under way is handed in, where it was begun in this boot.
+    #[tactic(auto, using(crate::proofs::Choosings::open_of_job), unfolding(crate::specs::Deciding::decided))]
+    pub fn done(&self, host: &Host, a: &AttemptId) -> Decision
+        ensures { result ≡ decided (Order.Done a.now) self.now.job host.now self.now.entries }
     {
         if self.is_under_way(a) {
             self.hands_in(host, a)
@@ -97,8 +107,10 @@ impl Standings {
         }
     }
 
+    /// What `Fail` decides: an attempt that is under way fails, and the job where that is one failure too many. Memory may be
+    /// refused.
     #[tactic(auto, using(crate::proofs::Choosings::open_of_job))]
-    fn fail(&self, alloc: Global, a: &AttemptId) -> Result<Decision, AllocError>
+    pub fn fail(&self, alloc: Global, a: &AttemptId) -> Result<Decision, AllocError>
         ensures { let ls = lines_of self.now.entries in
             IfOk result (λ d. d ≡ of_attempt self.now.job ls a.now
             (Decision.Puts (failing self.now.job ls (a.now ∷ [])))) }
@@ -184,7 +196,7 @@ impl Standings {
     }
 
     // Whether with these lines one of these attempts' tasks has failed as often as the limit.
-    fn reaches(&self, lines: &[Line], failed: &[AttemptId]) -> bool
+    pub(crate) fn reaches(&self, lines: &[Line], failed: &[AttemptId]) -> bool
         requires { AllByRecursion (IsMine self.now.job) failed.now }
         ensures { result ≡ reaches self.now.job.limit
             (lines_of self.now.entries ++ lines.now) failed.now }
@@ -246,7 +258,7 @@ fn is_failure_at(task: &TaskId, line: &Line) -> bool
     }
 }
 
-fn add_failed(lines: &mut Vec<Line>, failed: &[AttemptId]) -> Result<(), AllocError>
+pub(crate) fn add_failed(lines: &mut Vec<Line>, failed: &[AttemptId]) -> Result<(), AllocError>
     ensures { OnOk result (lines.new.items ≡ lines.old.items ++ map Line.Failed failed.now) }
 {
     for a in failed {
@@ -255,7 +267,7 @@ fn add_failed(lines: &mut Vec<Line>, failed: &[AttemptId]) -> Result<(), AllocEr
     Ok(())
 }
 
-fn add_interrupted(lines: &mut Vec<Line>, cut: &[AttemptId]) -> Result<(), AllocError>
+pub(crate) fn add_interrupted(lines: &mut Vec<Line>, cut: &[AttemptId]) -> Result<(), AllocError>
     ensures { OnOk result (lines.new.items ≡ lines.old.items ++ map Line.Interrupted cut.now) }
 {
     for a in cut {

@@ -23,6 +23,7 @@
 #![tactic(auto)]
 
 mod attempts;
+mod beginnings;
 mod deciding;
 mod decision;
 mod host;

@@ -197,7 +197,7 @@ fn numbered(task: TaskId, number: usize) -> Option<AttemptId>
     }
 }
 
-fn push_found(all: &mut Attempts, found: Option<AttemptId>) -> Result<(), AllocError>
+pub(crate) fn push_found(all: &mut Attempts, found: Option<AttemptId>) -> Result<(), AllocError>
     ensures { OnOk result (all.new ≡ all.old ++ cons_option found []) }
 {
     match found {

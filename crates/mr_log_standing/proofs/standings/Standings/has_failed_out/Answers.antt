@@ -12,5 +12,5 @@ returns c =
     ap (λ k. leb k c.failures_in.result) c.saturating_sub.ensures
     ∙ reached c.failures-before.result c.failures_in.result c.args.limit
     ∙ ap (λ k. not (nat_lt k c.args.limit))
-        ((λ i. (c.failures-before.ensures ∙ ap (λ u. failures ls u) (own-task c.args.self.now.job c.args.a.now c.task-task.result c.requires c.task-task.ensures)) i + (c.failures_in.ensures ∙ ap (λ u. failures c.args.lines.now u) c.task-task.ensures) i)
-        ∙ sym (failures-both ls c.args.lines.now t))
+    ((λ i. (c.failures-before.ensures ∙ ap (λ u. failures ls u) (own-task c.args.self.now.job c.args.a.now c.task-task.result c.requires c.task-task.ensures)) i + (c.failures_in.ensures ∙ ap (λ u. failures c.args.lines.now u) c.task-task.ensures) i)
+    ∙ sym (failures-both ls c.args.lines.now t))
