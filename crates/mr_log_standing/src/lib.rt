@@ -13,6 +13,9 @@
 //!
 //! - `Standings` is the job and the entries that it took: each of its questions is answered exactly as the definitions
 //!   have it, of all of these.
+//! - `done`, `fail`, `abort`, `publish`, `forget`, `start_next`, `start_at` and `start_over` say exactly what `decided` has
+//!   of these orders, `conclude` what `concluded` has. An order to ask is `standing`, one to resume `ends`. Orders about
+//!   many tasks (`FailTask`, `FailAll`, `StartAll`) have definitions alone.
 //! - `laws::winners_stay`: a winner stays when lines are added, with what it handed in; so does the boot of a start.
 //! - `laws::standings_stay`: who has won stays so, whatever is added. By lawful lines, who has lost never wins, and an
 //!   attempt is started at most once.
