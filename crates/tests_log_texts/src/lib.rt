@@ -15,3 +15,5 @@ mod confirm;
 mod entries;
 #[cfg(test)]
 mod fixtures;
+#[cfg(test)]
+mod layout;

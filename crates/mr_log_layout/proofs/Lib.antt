@@ -1,0 +1,4 @@
+pub mod Utf8
+pub mod Told
+pub mod Entries
+pub mod Apart
