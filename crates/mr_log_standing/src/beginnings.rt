@@ -133,8 +133,8 @@ impl Standings {
         None
     }
 
-    /// What `StartNext` decides on this host: an attempt is begun at the first task that has no winner and none under way.
-    /// Memory may be refused.
+    /// What `StartNext` decides on this host: an attempt is begun at the first task that has no
+    /// winner and none under way. Memory may be refused.
     #[tactic(auto, unfolding(crate::specs::Deciding::decided))]
     pub fn start_next(&self, alloc: Global, host: &Host) -> Result<Decision, AllocError>
         ensures { IfOk result (λ d. d
@@ -209,8 +209,8 @@ impl Standings {
         then_begins(lines, self.next_attempt(n))
     }
 
-    /// What `StartAt` decides on this host: an attempt is begun at the task with this number, next to one that is under way at most.
-    /// Memory may be refused.
+    /// What `StartAt` decides on this host: an attempt is begun at the task with this number, next
+    /// to one that is under way at most. Memory may be refused.
     #[tactic(auto, unfolding(crate::specs::Deciding::decided))]
     pub fn start_at(&self, alloc: Global, host: &Host, n: u32) -> Result<Decision, AllocError>
         ensures { IfOk result (λ d. d
@@ -228,8 +228,8 @@ impl Standings {
         self.begins_next_to(alloc, host, n)
     }
 
-    /// What `StartOver` decides on this host: what is under way at the task with this number is given up, and an attempt is begun there.
-    /// Memory may be refused.
+    /// What `StartOver` decides on this host: what is under way at the task with this number is
+    /// given up, and an attempt is begun there. Memory may be refused.
     #[tactic(auto, unfolding(crate::specs::Deciding::decided))]
     pub fn start_over(&self, alloc: Global, host: &Host, n: u32) -> Result<Decision, AllocError>
         ensures { IfOk result (λ d. d

@@ -29,7 +29,8 @@ impl Standings {
         }
     }
 
-    /// What `Forget` decides: the log of a published job is forgotten, with all else that the commands keep.
+    /// What `Forget` decides: the log of a published job is forgotten, with all else that the
+    /// commands keep.
     #[tactic(auto, unfolding(crate::specs::Deciding::decided))]
     pub fn forget(&self) -> Decision
         ensures { (host : Host) →
@@ -42,7 +43,8 @@ impl Standings {
         }
     }
 
-    /// What `Abort` decides: the job is ended as failed, unless it is published or will be. Memory may be refused.
+    /// What `Abort` decides: the job is ended as failed, unless it is published or will be. Memory
+    /// may be refused.
     #[tactic(auto, unfolding(crate::specs::Deciding::decided))]
     pub fn abort(&self, alloc: Global) -> Result<Decision, AllocError>
         ensures { IfOk result (λ d. (host : Host) →
@@ -57,7 +59,8 @@ impl Standings {
         Ok(self.ends(Outcome::AllWon))
     }
 
-    /// What `Publish` decides: a held job is published, if all of its tasks are won. Memory may be refused.
+    /// What `Publish` decides: a held job is published, if all of its tasks are won. Memory may be
+    /// refused.
     #[tactic(auto, unfolding(crate::specs::Deciding::decided))]
     pub fn publish(&self, alloc: Global) -> Result<Decision, AllocError>
         ensures { IfOk result (λ d. (host : Host) →
@@ -84,7 +87,8 @@ impl Standings {
         self.ends(Outcome::Stands(self.standing(a)))
     }
 
-    /// What `Done` decides on this host: an attempt that is under way is handed in, where it was begun in this boot.
+    /// What `Done` decides on this host: an attempt that is under way is handed in, where it was
+    /// begun in this boot.
     #[tactic(auto, using(crate::proofs::Choosings::open_of_job), unfolding(crate::specs::Deciding::decided))]
     pub fn done(&self, host: &Host, a: &AttemptId) -> Decision
         ensures { result ≡ decided (Order.Done a.now) self.now.job host.now self.now.entries }
@@ -107,8 +111,8 @@ impl Standings {
         }
     }
 
-    /// What `Fail` decides: an attempt that is under way fails, and the job where that is one failure too many. Memory may be
-    /// refused.
+    /// What `Fail` decides: an attempt that is under way fails, and the job where that is one
+    /// failure too many. Memory may be refused.
     #[tactic(auto, using(crate::proofs::Choosings::open_of_job))]
     pub fn fail(&self, alloc: Global, a: &AttemptId) -> Result<Decision, AllocError>
         ensures { let ls = lines_of self.now.entries in

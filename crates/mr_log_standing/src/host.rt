@@ -5,7 +5,8 @@ ghost use Rattle.mr_log_standing.specs.Standing.{is_this, is_earlier};
 
 use std::marker::Model;
 
-/// The host on which a command runs: the boot that it is in, and those that it was in before, in their short form.
+/// The host on which a command runs: the boot that it is in, and those that it was in before, in
+/// their short form.
 #[derive(Drop)]
 pub struct Host {
     boot: u64,

@@ -11,7 +11,8 @@ pub fn standings_stay()
     ensures { StandingsStay }
 {}
 
-/// A job that was ended as failed is never published; one that may be published is never ended as failed.
+/// A job that was ended as failed is never published; one that may be published is never ended as
+/// failed.
 pub fn jobs_stay()
     ensures { JobsStay }
 {}

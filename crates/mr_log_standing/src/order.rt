@@ -5,7 +5,8 @@ use mr_ids::AttemptId;
 /// What a command is asked to do.
 #[derive(Clone, Copy, Debug, PartialEq, Eq)]
 pub enum Order {
-    /// The attempt has written all that it has to: it is handed in, and counts where it is the first of its task.
+    /// The attempt has written all that it has to: it is handed in, and counts where it is the
+    /// first of its task.
     Done(AttemptId),
     /// The attempt failed, or is given up.
     Fail(AttemptId),
@@ -21,7 +22,8 @@ pub enum Order {
     Abort,
     /// A held job is published, if all of its tasks are won.
     Publish,
-    /// The log of a published job is forgotten, with all else that the commands keep for themselves.
+    /// The log of a published job is forgotten, with all else that the commands keep for
+    /// themselves.
     Forget,
     /// An attempt is begun, at the first task that has no winner and none under way.
     StartNext,
@@ -36,12 +38,13 @@ pub enum Order {
 /// How a command ends.
 #[derive(Clone, Copy, Debug, PartialEq, Eq)]
 pub enum Outcome {
-    /// So the attempt of the order stands, by entries that are durable. What there is to publish is published.
+    /// So the attempt of the order stands, by entries that are durable. What there is to publish is
+    /// published.
     Stands(Standing),
     /// The order was carried out. What there is to publish is published.
     Finished,
-    /// There is nothing to begin, or to end as failed, since each task that the order is about has a winner. What there
-    /// is to publish is published.
+    /// There is nothing to begin, or to end as failed, since each task that the order is about has
+    /// a winner. What there is to publish is published.
     AllWon,
     /// This attempt was begun: its start is durable, and the folder in which it writes is there.
     Started(AttemptId),
@@ -57,18 +60,21 @@ pub enum Outcome {
     Full,
     /// The job has no task with this number. Nothing changed.
     NoTask,
-    /// The attempt was begun in another boot than the one in which it is handed in, so that some of what it wrote may be
-    /// lost. Nothing changed.
+    /// The attempt was begun in another boot than the one in which it is handed in, so that some of
+    /// what it wrote may be lost. Nothing changed.
     OtherBoot,
     /// Another command is handing the attempt in. Nothing changed.
     StillSyncing,
-    /// The attempt has nothing to hand in: nothing where it writes, and nothing that was claimed. Nothing is recorded.
+    /// The attempt has nothing to hand in: nothing where it writes, and nothing that was claimed.
+    /// Nothing is recorded.
     NoFile,
-    /// Something that the attempt hands in is no regular file and no folder, or has another name too. Nothing is recorded.
+    /// Something that the attempt hands in is no regular file and no folder, or has another name
+    /// too. Nothing is recorded.
     NotAFile,
     /// Something that the attempt hands in was written while it was synced. Nothing is recorded.
     StillWritten,
-    /// A visible name of this winner's task is taken by something else. Nothing is replaced, and no marker is made.
+    /// A visible name of this winner's task is taken by something else. Nothing is replaced, and no
+    /// marker is made.
     Foreign(AttemptId),
     /// Something that this winner handed in is neither kept nor visible. No marker is made.
     Vanished(AttemptId),

@@ -15,8 +15,8 @@ use mr_log_entries::{Entries, Entry, Line, Origin};
 use std::alloc::{AllocError, Global};
 use std::marker::Model;
 
-/// How a job stands by a front of its log. Each question is answered from what is kept of one task, without a walk over
-/// all lines.
+/// How a job stands by a front of its log. Each question is answered from what is kept of one task,
+/// without a walk over all lines.
 pub struct Standings {
     job: Job,
     entries: Entries,

@@ -52,7 +52,8 @@ fn after(
     log.take(entry).expect(rt, "no memory")
 }
 
-// Task 0: its attempt 1 has won, after attempt 0 failed. Task 1: cut off in boot 5, begun anew in boot 6. Task 2: nothing.
+// Task 0: its attempt 1 has won, after attempt 0 failed. Task 1: cut off in boot 5, begun anew in
+// boot 6. Task 2: nothing.
 fn worked(rt: &impl Abort, alloc: Global) -> Standings {
     let log = Standings::new(alloc, JOB).expect(rt, "no memory");
     let log = after(
