@@ -8,6 +8,7 @@ use Rattle.mr_world_model.specs.World.{Event}
 use Rattle.mr_world_model.specs.Claims.{winner}
 use Rattle.mr_world_model.specs.Results.{outcome, visible}
 use Rattle.mr_world.specs.mr_world_state.specs.declared.fault.WorldFault.{WorldFault}
+use Rattle.mr_world.specs.mr_world_state.specs.declared.fault.WorldFault.TheVariants.{NoMemory}
 use Rattle.mr_world.specs.declared.results.VisibleFile.{VisibleFile}
 use Rattle.mr_world.specs.Applying.{Ran, StopsAt}
 use Rattle.mr_world.specs.Journal.{Journal, world_in}
@@ -31,6 +32,6 @@ AreFilesIn j files = map as_pair files ≡ visible (world_in j)
 abbrev pub TellsOfWinner : Journal → ℕ → TaskId → Attempt → Type 0
 TellsOfWinner j place t a = (e : Envelope) × (slice_get (world_in j).bag place ≡ Some e) × (e.body ≡ Won t a)
 
--- a law that ended with a fault: no event has happened, or those before one that was refused have, or all have
+-- a law that ended with a fault: an event was refused, and those before it have happened; or memory was refused to a look at the world, before all events or behind them
 abbrev pub EndedAt : Journal → List Event → WorldFault → Journal → Type 0
-EndedAt old es f new = (new ≡ old) ⊎ (StopsAt old es f new ⊎ Ran old es new)
+EndedAt old es f new = StopsAt old es f new ⊎ ((f ≡ NoMemory) × ((new ≡ old) ⊎ Ran old es new))

@@ -10,7 +10,8 @@ use mr_world_events::Event;
 
 /// Once the success marker was seen it is seen again, whatever happens in between.
 ///
-/// Refusals: `Full` or `NoMemory`, those of `World::run`. The events before the one that was refused so have happened then.
+/// Refusals: `Full` or `NoMemory`, those of `World::run`: the events before the one that was refused so have happened then. `NoMemory` also
+/// where a look at the world is refused memory.
 #[tactic(auto, using(crate::proofs::Again::marker_again, crate::proofs::Again::run_refused))]
 pub fn marker_stays(world: &mut World, events: Vec<Event>) -> Result<Told<bool>, WorldFault>
     ensures stays { IfOk result (λ marked. marked.before ≡ true → marked.after ≡ true) }
@@ -28,7 +29,8 @@ pub fn marker_stays(world: &mut World, events: Vec<Event>) -> Result<Told<bool>,
 
 /// Where the success marker was seen, the files that are seen stay the same, byte for byte, whatever happens then. None where it was not seen: then no event has happened.
 ///
-/// Refusals: `Full` or `NoMemory`, those of `World::run`. The events before the one that was refused so have happened then.
+/// Refusals: `Full` or `NoMemory`, those of `World::run`: the events before the one that was refused so have happened then. `NoMemory` also
+/// where a look at the world is refused memory.
 #[tactic(auto, using(crate::proofs::Again::marked_files_again, crate::proofs::Again::run_refused))]
 pub fn marked_files_stay(
     world: &mut World,
@@ -54,7 +56,8 @@ pub fn marked_files_stay(
 /// Where an outcome was told, a failed one too, the files that are seen stay the same, byte for byte, whatever happens then. None where none was told: then no event has
 /// happened.
 ///
-/// Refusals: `Full` or `NoMemory`, those of `World::run`. The events before the one that was refused so have happened then.
+/// Refusals: `Full` or `NoMemory`, those of `World::run`: the events before the one that was refused so have happened then. `NoMemory` also
+/// where a look at the world is refused memory.
 #[tactic(auto, using(crate::proofs::Again::told_files_again, crate::proofs::Again::run_refused))]
 pub fn files_stay_after_the_outcome(
     world: &mut World,

@@ -19,8 +19,8 @@
 //!
 //! - `a_world_succeeds`: in some world a job with a map succeeds, under the world's own limits. This clause alone cites definitions, since no call is made.
 //!
-//! A law that runs events ends with the fault of `World::run`: `Full` or `NoMemory`, never `NotNow` (clause `fault`); how far the events were run then, says `ended`. Those that run
-//! none end with `NoMemory` alone.
+//! A law that runs events ends with the fault of `World::run`, never with `NotNow` (clause `fault`). `Full` is answered only where an event was refused so, and those before it have
+//! happened (`ended`); `NoMemory` also where a look at the world was refused memory. Those that run none end with `NoMemory` alone.
 //!
 //! Only tested: that they answer with ample memory.
 #![tactic(auto)]

@@ -14,7 +14,8 @@ use mr_world_events::Event;
 
 /// A winner that was told is told again, whatever happens in between.
 ///
-/// Refusals: `Full` or `NoMemory`, those of `World::run`. The events before the one that was refused so have happened then.
+/// Refusals: `Full` or `NoMemory`, those of `World::run`: the events before the one that was refused so have happened then. `NoMemory` also
+/// where a look at the world is refused memory.
 #[tactic(auto, using(crate::proofs::Again::winner_again, crate::proofs::Again::run_refused))]
 pub fn winner_stays(
     world: &mut World,
