@@ -11,3 +11,4 @@ pub mod Moving
 pub mod Targets
 pub mod Answering
 pub mod Keeping
+pub mod Example

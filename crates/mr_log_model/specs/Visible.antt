@@ -75,3 +75,7 @@ pub record Promises (s : Setting) (w v : World) : Type 0 where
 abbrev pub OutputsStay : Type 0
 OutputsStay = (s : Setting) (moves more : List Move) → IsRun s begun moves → IsRun s (after s begun moves) more
     → Promises s (after s begun moves) (after s (after s begun moves) more)
+
+-- Such a run there is: of some job the marker is there in the end.
+abbrev pub SomeJobIsPublished : Type 0
+SomeJobIsPublished = (s : Setting) × (moves : List Move) × IsRun s begun moves × (seen (after s begun moves).disk Marker ≢ None)

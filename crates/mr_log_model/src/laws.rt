@@ -1,6 +1,6 @@
 //! Laws of an output directory with a log of names: these functions do nothing.
 ghost use Rattle.mr_log_model.specs.Promises.{DecisionsStay};
-ghost use Rattle.mr_log_model.specs.Visible.{OutputsStay};
+ghost use Rattle.mr_log_model.specs.Visible.{OutputsStay, SomeJobIsPublished};
 
 /// The entries of the log are durable, but for one at the end at most. A durable entry stays. Each was decided from exactly
 /// the entries before it. Of whom a command said that it won, it is its task's recorded winner from then on; of whom one
@@ -19,4 +19,9 @@ pub fn decisions_stay()
 /// marker is there, and stays.
 pub fn outputs_stay()
     ensures { OutputsStay }
+{}
+
+/// Such a run there is: of a job with one task an attempt is begun and done, and the marker is there in the end.
+pub fn some_job_is_published()
+    ensures { SomeJobIsPublished }
 {}

@@ -5,6 +5,7 @@
 //! `decisions_stay`: of any list of moves from what an honest `begin` left, and of any more moves after it. A move is a
 //! command that begins, an honest answer to the call of any command that is under way, its end, its end by a kill after
 //! any of its calls, or a power cut, which ends all commands. No lock is among the premises: entries are exclusive names.
+//! Nobody but commands makes entries and visible names.
 //!
 //! What commands make and remove is promised by their calls: none is made that durable entries do not allow for good.
 //!
@@ -14,7 +15,10 @@
 //! forgotten, that is so for good. Of a folder that was handed in, all that its list has is its output; a list that is read
 //! is the one that was written.
 //!
-//! Not claimed: which files are behind the names, and that they are whole; that a command ends, and time; a disk whose
+//! `some_job_is_published`: such a run there is, from the first attempt to the marker and the entry that says so. So the
+//! premises of the other laws hold of a job that comes to its end.
+//!
+//! Not claimed: which file each of these names is, and that it is whole; that a command ends, and time; a disk whose
 //! power is cut while the commands go on (a server's).
 //!
 //! # The proofs
@@ -32,4 +36,4 @@
 
 mod laws;
 
-pub use laws::{decisions_stay, outputs_stay};
+pub use laws::{decisions_stay, outputs_stay, some_job_is_published};
