@@ -1,11 +1,11 @@
-"""Asks `mrsim explore` in two ways, by which the same ends have to come: for tools/hostile.
+"""Asks `mrsim explore` in two ways, by which the same ends have to come: for tools/hostile. The one that counts every run judges the other.
 
-- deep_runs_come_to_the_same_ends: some inputs are explored as ever, and once more with `--deep`, where no run is ended for making no
+- deep_runs_come_to_the_same_ends: the runs of some inputs are counted, and once more with `--deep`, where no run is ended for making no
   progress. Either no run was, and both print the same; or the ends are the same, each by as few faults and with the same script, but
   where that makes no progress. Behind such a script the calm of the newest master makes all of its 10,000 events, and what `play` tells
   last is as without them. Just the deep runs that make no progress were cut.
-- merged_ends_are_those_of_all_runs: some inputs are explored as ever, and once more with `--merge`, by one thread and by four, which
-  print the same. The ends are the same, each by as few faults and as few events, and the least come first; to each its script leads
+- merged_ends_are_those_of_all_runs: some inputs are explored by one thread and by four, which print the same, and once more with
+  `--count`, where every run is made. The ends are the same, each by as few faults and as few events, and the least come first; to each its script leads
   `play`, with no line refused.
 """
 import json
@@ -21,7 +21,7 @@ STALLED = ONE + "start 1 0\ncalm 1 before pending\nlaunch 1 r 0 0\nstep 1.1\ndel
 ORPHAN = ONE + "start 1 0\ncalm 1 before pending\ncrash 1 0\nstart 2 0\n"
 # What is explored: an input, the most faults, and how many events a deep run makes by itself. No run that makes progress makes as many.
 ASKED = ((ONE, 1, 1000), (STALLED, 0, 5000), (STALLED, 1, 120), (ORPHAN, 1, 1000))
-# What is explored with `--merge`: an input, and the most faults. Threads work where these are two. The job commit of one reduce is short enough for two.
+# What is explored in both ways: an input, and the most faults. Threads work where these are two. The job commit of one reduce is short enough for two.
 TWO = HEAD + '"reduces":2}\n'
 MERGED = ((ONE, 0), (ONE, 1), (TWO, 1), (STALLED, 1), (ORPHAN, 1), (ONE + "start 1 0\ncalm 1 before started\n", 2), (TWO + "start 1 0\ncalm 1\n", 2))
 
@@ -64,7 +64,7 @@ def deep(program, library, room):
     tally = Tally("deep_runs_come_to_the_same_ends")
     ended = 0
     for n, (text, faults, events) in enumerate(ASKED):
-        words = [program, "explore", "--json", "--faults", str(faults)]
+        words = [program, "explore", "--count", "--json", "--faults", str(faults)]
         job = text.split("\n", 1)[0]
         with Program(words, library, f"{room}/ended.{n}", stack=STACK) as one, Program([*words, "--deep", str(events)], library, f"{room}/deep.{n}", stack=STACK) as other:
             one.gives(text.encode())
@@ -101,7 +101,7 @@ def merged(program, library, room):
     count = 0
     for n, (text, faults) in enumerate(MERGED):
         told = []
-        for how in ([], ["--merge", "--jobs", "1"], ["--merge", "--jobs", "4"]):
+        for how in (["--count"], ["--jobs", "1"], ["--jobs", "4"]):
             words = [program, "explore", "--json", "--faults", str(faults), *how]
             with Program(words, library, f"{room}/merged.{n}.{len(told)}", stack=STACK) as explore:
                 explore.gives(text.encode())

@@ -20,7 +20,7 @@ begins input p e h s = record { before = view_of p; left = left_by input p h; st
 
 pub begins_not : (input : List ℕ) (p : Player) (f : SimFault) → HasPrinted input p → CannotBegin (view_of p) f → ExploreFails input f
 begins_not input p fault.NoMemory h c = tt
-begins_not input p fault.JournalMismatch h c = tt
+begins_not input p fault.JournalMismatch h c = absurd c
 begins_not input p fault.Full h c = inr (record { before = view_of p; left = left_by input p h; newest = c.0; none = c.1 })
 begins_not input p fault.Read h c = absurd c
 begins_not input p fault.Write h c = absurd c

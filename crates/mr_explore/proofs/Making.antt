@@ -7,6 +7,7 @@ use Rattle.mr_explore_search.specs.declared.fault.WalkFault.{WalkFault}
 use Rattle.mr_explore_search.specs.declared.fault.WalkFault.TheVariants as walk_fault
 use Rattle.mr_explore_search.specs.declared.ended.Ended.{Ended}
 use Rattle.mr_explore_search.specs.Runs.{Found, PassesLimit}
+use Rattle.mr_explore_search.specs.Steps.{IsNotFull}
 use Rattle.mr_explore_search.specs.Taking.{Takes}
 use Rattle.mr_explore_ends.specs.Outcomes.{Outcome}
 use Rattle.mr_explore_ends.specs.Table.{Came, ToEnd, ToLimit, Table, all_noted, noted}
@@ -19,8 +20,14 @@ use Rattle.mr_explore.specs.Runs.{Exploring}
 
 pub walk_failed : (goal : Option (List Expectation)) (x : Remaining) (left : List (Found Exploring)) (f : WalkFault) (new : List (Found Exploring)) → x.left ≡ left → Takes left (Err f) new → Fails 1 goal x (fault_of f)
 walk_failed goal x left walk_fault.NoMemory new e h = tt
-walk_failed goal x left walk_fault.Mismatch new e h = tt
+walk_failed goal x left walk_fault.Mismatch new e h = absurd h
 walk_failed goal x left walk_fault.Full new e h = record { made = []; none = refl; rest = h.0.0; is = e ∙ h.0.1; few = omega arith }
+
+-- a walk could not be begun: there was no memory
+pub no_memory : (f : WalkFault) (g : SimFault) → g ≡ fault_of f → IsNotFull f → g ≡ fault.NoMemory
+no_memory walk_fault.NoMemory g is h = is
+no_memory walk_fault.Full g is h = absurd h
+no_memory walk_fault.Mismatch g is h = absurd h
 
 pub walk_made : (x : Remaining) (walk new : List (Found Exploring)) (f : Option (Ended Exploring)) (e : Ended Exploring) → x.left ≡ walk → f ≡ Some e → Takes walk (Ok f) new → x.left ≡ as_found (record { faults = e.faults; run = e.run }) ∷ new
 walk_made x walk new f e left is h = left ∙ subst (λ (g : Option (Ended Exploring)). Takes walk (Ok g) new) is h
@@ -135,7 +142,7 @@ ran_in_time n runs seconds goal old mid new r few h timed =
 
 still_fails : (n runs : ℕ) (goal : Option (List Expectation)) (old mid : Remaining) (f : SimFault) → Ran n goal old mid → n < runs → Fails 1 goal mid f → Fails runs goal old f
 still_fails n runs goal old mid fault.NoMemory r few c = tt
-still_fails n runs goal old mid fault.JournalMismatch r few c = tt
+still_fails n runs goal old mid fault.JournalMismatch r few c = absurd c
 still_fails n runs goal old mid fault.Full r few c =
     let both = length-append r.made c.made in
     let first = r.count in

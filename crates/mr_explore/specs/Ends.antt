@@ -1,10 +1,8 @@
 -- What is told of the ends that came (our own profile).
 use Rattle.std.specs.Prelude.{◌≡◌, ℕ, List, ◌∷◌, ◌++◌, Option, Some, None}
 use Rattle.mr_play.specs.mr_world.specs.Limits.{within}
-use Rattle.mr_sim_commands.specs.declared.fault.SimFault.{SimFault}
-use Rattle.mr_sim_commands.specs.declared.fault.SimFault.TheVariants as fault
 use Rattle.mr_sim_commands.specs.seq.Text.{PrintsSeq, RefusesSeq}
-use Rattle.mr_play.specs.Text.{IsBadPlayJob, PrintsPlay, job_line}
+use Rattle.mr_play.specs.Text.{PrintsPlay, job_line}
 use Rattle.mr_script.specs.declared.expectation.Expectation.{Expectation}
 use Rattle.mr_explore_ends.specs.Outcomes.{Outcome, outcome_text}
 use Rattle.mr_explore_ends.specs.Text.{Found, Sequential, explored_text}
@@ -35,9 +33,3 @@ pub record TellsEnds (input : List ℕ) (form : Form) (goal : Option (List Expec
   pub sequential : Sequential
   pub of_job : IsSequentialOf input sequential
   pub is : text ≡ told_text form sequential goal found
-
--- why nothing is told: the first bad key of the job text. An allocation failure may come at any input.
-abbrev pub TellFails : List ℕ → SimFault → Type 0
-TellFails input fault.NoMemory = Unit {0}
-TellFails input (fault.Job e) = IsBadPlayJob input e
-TellFails input _ = ⊥

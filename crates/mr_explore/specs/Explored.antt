@@ -44,8 +44,13 @@ pub record WouldPass (asked : Asked) (input : List ℕ) : Type 0 where
 abbrev pub IsFullExplored : Asked → List ℕ → Type 0
 IsFullExplored asked input = IsFullPlay within input ⊎ (CannotStart input ⊎ WouldPass asked input)
 
--- Why nothing is printed: as of `play`, or a limit is passed. An allocation failure may come at any input, and so may that the events of a run could not happen once more.
+-- Why nothing is printed of the runs: one would pass a limit. An allocation failure may come at any input.
+abbrev pub RunsFail : Asked → List ℕ → SimFault → Type 0
+RunsFail asked input fault.NoMemory = Unit {0}
+RunsFail asked input fault.Full = WouldPass asked input
+RunsFail asked input _ = ⊥
+
+-- Why nothing is printed: as of `play`, or a limit is passed. An allocation failure may come at any input.
 abbrev pub ExploredFails : Asked → List ℕ → SimFault → Type 0
-ExploredFails asked input fault.JournalMismatch = Unit {0}
 ExploredFails asked input fault.Full = IsFullExplored asked input
 ExploredFails asked input f = PlayFails within input f

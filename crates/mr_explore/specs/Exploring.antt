@@ -103,9 +103,8 @@ pub record Begins (input : List ℕ) (deep : Option ℕ) (most : ℕ) (x : Remai
   pub faults : x.faults ≡ most
   pub table : x.table ≡ empty
 
--- why none is begun: as of `play`; or a limit forbids that the first master starts; or the events of a world's journal could not happen once more
+-- why none is begun: as of `play`, or a limit forbids that the first master starts
 abbrev pub ExploreFails : List ℕ → SimFault → Type 0
-ExploreFails input fault.JournalMismatch = Unit {0}
 ExploreFails input fault.Full = IsFullPlay within input ⊎ CannotStart input
 ExploreFails input f = PlayFails within input f
 
@@ -125,7 +124,6 @@ pub record IsFullBehind (most : ℕ) (goal : Option (List Expectation)) (left : 
 
 abbrev pub Fails : ℕ → Option (List Expectation) → Remaining → SimFault → Type 0
 Fails most goal x fault.NoMemory = Unit {0}
-Fails most goal x fault.JournalMismatch = Unit {0}
 Fails most goal x fault.Full = IsFullBehind most goal x.left
 Fails most goal x _ = ⊥
 

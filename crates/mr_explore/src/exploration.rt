@@ -2,24 +2,25 @@
 ghost use Rattle.std.specs.Prelude.{◌≡◌, true, IfOk, IfErr, OnOk};
 ghost use Rattle.std.specs.Option.{option_map};
 ghost use Rattle.mr_explore_ends.specs.Table.{empty, noted};
-ghost use Rattle.mr_explore_search.specs.Parting.{whole};
 ghost use Rattle.mr_explore_search.specs.Taking.{no_more};
+ghost use Rattle.mr_sim_commands.specs.declared.fault.SimFault.TheVariants as fault;
 ghost use Rattle.mr_explore.specs.Faults.{most_onward};
-ghost use Rattle.mr_explore.specs.Exploring.{Begins, ExploreFails, IsTimed, Makes, MakesOne, came, fault_of, is_sought, meets_goal};
+ghost use Rattle.mr_explore.specs.Runs.{runs_with};
+ghost use Rattle.mr_explore.specs.Exploring.{IsTimed, Makes, MakesOne, came, fault_of, is_sought, meets_goal};
 
 use crate::explored::Explored;
 use crate::watch::Watch;
 use crate::winners::Winners;
 use mr_explore_ends::{Outcome, Table, meets};
-use mr_explore_search::{Ended, Parts, Walk, WalkFault};
+use mr_explore_search::{Ended, Walk, WalkFault};
 use mr_play::mr_world::MAX_EVENTS;
 use mr_script::Expectation;
 use mr_sim_commands::SimFault;
 use std::alloc::{AllocError, Global};
 use std::marker::Model;
 
-/// How many runs are made before it is told again how far it is.
-pub const STRIDE: u64 = 100_000;
+// How many runs are made before it is told again how far it is.
+const STRIDE: u64 = 100_000;
 
 /// The runs of an input with at most a given number of faults, and the table of those that were made. Contracts see it as the runs that are left, and that table.
 #[derive(Drop)]
@@ -39,58 +40,27 @@ impl Model for Exploration {
 }
 
 impl Exploration {
-    /// Plays an input, which is a job text and a script behind it; no run is made yet. Where no master was started, `start 1 0` comes first.
-    /// Where `deep` is told, no run is ended for making no progress, and each makes at most so many events by itself (`runs_with` of `specs/Runs`).
-    ///
-    /// The faults of `mr_play::played`.
+    /// All runs that come of this one by at most `faults` faults; none is made yet. Where `deep` is told, no run is ended for making no
+    /// progress, and each makes at most so many events by itself (`runs_with` of `specs/Runs`). It fails by an allocation failure.
     pub fn new(
         alloc: Global,
-        input: &[u8],
+        run: Explored,
         faults: u32,
         deep: Option<u64>,
     ) -> Result<Exploration, SimFault>
-        ensures begins { IfOk result (Begins input.now deep faults) }
-        ensures fault { IfErr result (ExploreFails input.now) }
+        ensures begins { IfOk result (λ x. x ≡ record { left = runs_with deep faults run; faults = faults; table = empty }) }
+        ensures fault { IfErr result (λ e. e ≡ fault.NoMemory) }
     {
-        let parts = Exploration::parts(alloc, input, faults, deep)?;
-        match parts.into_walk(alloc) {
+        let table = Table::new(alloc);
+        let run_on = run.with_depth(deep.is_some());
+        match Walk::new(alloc, run_on, faults, most_onward(deep)) {
             Ok(walk) => Ok(Exploration {
                 walk,
                 faults,
-                table: Table::new(alloc),
+                table,
                 winners: Winners::new(alloc),
             }),
             Err(fault) => Err(sim_fault(fault)),
-        }
-    }
-
-    /// The runs of an input, as `new` has them, that can be taken apart. None is in a part yet.
-    pub fn parts(
-        alloc: Global,
-        input: &[u8],
-        faults: u32,
-        deep: Option<u64>,
-    ) -> Result<Parts<Explored>, SimFault>
-        ensures begins { IfOk result (λ parts. Begins input.now deep faults (record { left = whole parts; faults = faults; table = empty })) }
-        ensures fault { IfErr result (ExploreFails input.now) }
-    {
-        let run = Explored::new(alloc, input)?;
-        let run_on = run.with_depth(deep.is_some());
-        match Parts::new(alloc, run_on, faults, most_onward(deep)) {
-            Ok(parts) => Ok(parts),
-            Err(fault) => Err(sim_fault(fault)),
-        }
-    }
-
-    /// What is left of a walk, and the table of the runs that were made. A run has at most `faults` faults.
-    pub fn of(alloc: Global, walk: Walk<Explored>, faults: u32, table: Table) -> Exploration
-        ensures { result ≡ record { left = walk; faults = faults; table = table } }
-    {
-        Exploration {
-            walk,
-            faults,
-            table,
-            winners: Winners::new(alloc),
         }
     }
 
@@ -174,8 +144,8 @@ fn most_onward(deep: Option<u64>) -> u64
     }
 }
 
-/// Whether a time is given, and has passed.
-pub fn has_passed<W: Watch>(watch: &W, seconds: Option<u64>) -> bool
+// Whether a time is given, and has passed.
+fn has_passed<W: Watch>(watch: &W, seconds: Option<u64>) -> bool
     ensures { result ≡ true → IsTimed seconds }
 {
     match seconds {

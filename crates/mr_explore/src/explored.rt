@@ -1,7 +1,8 @@
 //! A job's run that goes on as a calm, and that faults may befall.
-ghost use Rattle.std.specs.Prelude.{◌≡◌, Bool, Some, IfOk, IfErr};
+ghost use Rattle.std.specs.Prelude.{◌≡◌, ℕ, Bool, List, Some, IfOk, IfErr};
 ghost use Rattle.std.specs.Option.{option_map};
 ghost use Rattle.mr_play.specs.Players.{job_in, state_in};
+ghost use Rattle.mr_play.specs.Shown.{HasPrinted};
 ghost use Rattle.mr_explore_search.specs.Steps.{GoesOn};
 ghost use Rattle.mr_explore.specs.Exploring.{ExploreFails, is_cut, is_stalled};
 ghost use Rattle.mr_explore.specs.Runs.{IsRunOf, StartsFrom, explored, newest_in, start_first, with};
@@ -15,7 +16,7 @@ use crate::vain::is_in_vain;
 use mr_explore_faults::{Fault, later};
 use mr_explore_search::{Run, WalkFault};
 use mr_play::mr_world::World;
-use mr_play::{Player, PlayerFault, played};
+use mr_play::{Player, PlayerFault};
 use mr_sim_commands::SimFault;
 use mr_world_events::Event;
 use std::alloc::{AllocError, Global};
@@ -41,14 +42,13 @@ impl Model for Explored {
 }
 
 impl Explored {
-    /// The run of an input, which is a job text and a script behind it. Where no master was started, `start 1 0` comes first. It is not deep.
+    /// The run of a player that has played the script of an input. Where no master was started, `start 1 0` comes next. It is not deep.
     ///
-    /// The faults of `mr_play::played`.
-    pub fn new(alloc: Global, input: &[u8]) -> Result<Explored, SimFault>
-        ensures run { IfOk result (IsRunOf input.now) }
-        ensures fault { IfErr result (ExploreFails input.now) }
+    /// `Full` comes where a limit forbids that the first master starts. Else only `NoMemory` comes.
+    pub fn new(player: Player) -> Result<Explored, SimFault>
+        ensures run { (input : List ℕ) → HasPrinted input player → IfOk result (IsRunOf input) }
+        ensures fault { (input : List ℕ) → HasPrinted input player → IfErr result (ExploreFails input) }
     {
-        let player = played(alloc, input)?;
         match started(player) {
             Ok(player) => Ok(Explored {
                 player,

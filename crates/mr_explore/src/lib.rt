@@ -3,17 +3,18 @@
 //! A job text with a script is played, and goes on as a calm of the newest master does. Into this calm faults are
 //! put, at each place. What one puts off, as a packet that was passed over, comes at any later place. What one fault
 //! is, and where it may befall a run, is defined in `specs/Faults` (and its kinds in mr_explore_faults). Which runs
-//! there are is defined in `specs/Runs`, and what `explore` prints in `specs/Explored`. What is told of the ends of runs
+//! there are is defined in `specs/Runs`, and what `explore --count` prints in `specs/Explored`. What is told of the ends of runs
 //! is defined in `specs/Ends` and in mr_explore_ends. What a run came to is a value (`outcome_of` of `specs/Exploring`),
 //! and is written as `play` prints its cluster (`outcomes_are_printed`).
 //!
 //! # What is proved
 //!
-//! - **What `explore` prints** (`explore_output`, for every input): exactly the text of the definitions
+//! - **What `explore --count` prints** (`explore_output`, for the start of every input): exactly the text of the definitions
 //!   (`PrintsExplored`), byte for byte. Of all runs with at most as many faults as are asked for, the first `most`
 //!   were made, or all, or those up to the first that came to the end that is sought; where a time is given, the first
-//!   ones. The text tells of their ends. A fault is one that the input has (`ExploredFails`): the first bad key of the job text, else the first bad line of
-//!   the script, else `Full`. A limit may be passed by the script, by the first master's start, or by one of these runs.
+//!   ones. The text tells of their ends. `Full` comes only where one of these runs would pass a limit (`RunsFail`).
+//! - **An input is started once** (`Start::new`): its script is played, its sequential files are made (`IsStartOf`), and what is to be noted of the script is kept.
+//!   A fault is the first bad line of the script, else `Full`: the script or the first master's start passes a limit (`ExploreFails`).
 //! - **A run is one of mr_explore_search's** (`Explored`): its calm, where it has ended, what may befall it at a place, and what
 //!   then comes of it are exactly those of the definitions. It has ended where its calm has, or where it goes on in
 //!   vain (`specs/Vain`): all who live wait for their masters, and the calm's next events are their questions alone.
@@ -46,21 +47,22 @@ mod going;
 mod laws;
 mod output;
 mod sequential;
+mod start;
 mod tried;
 mod vain;
 mod watch;
 mod winners;
 
 pub use asked::{Asked, Form};
-pub use exploration::{Exploration, STRIDE, has_passed, note, sim_fault};
+pub use exploration::{Exploration, note, sim_fault};
 pub use explored::Explored;
 pub use laws::{
     asking_shows_nothing, explored_or_refused, one_explored_text, outcomes_are_printed,
 };
 pub use mr_explore_ends::{Outcome, Row, Table, best_of, read_goal};
 pub use mr_explore_faults::Fault;
-pub use output::{explore_output, explored_text};
-pub use sequential::sequential_of;
+pub use output::explore_output;
+pub use start::{Beside, Start};
 pub use vain::asks_in;
 pub use watch::{Unwatched, Watch};
 pub use winners::Winners;

@@ -1,5 +1,6 @@
 pub mod Choosing
 pub mod EndObjects
-pub mod Joining
+pub mod Sameness
 mod Noting
 mod Pieces
+mod Columns

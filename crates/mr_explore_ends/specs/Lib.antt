@@ -3,6 +3,7 @@
 pub mod Founds
 pub mod Goals
 pub mod JsonLines
+pub mod Lines
 pub mod Outcomes
 pub mod Rows
 pub mod Table

@@ -1,3 +1,2 @@
 -- Words for private contracts and for proofs. No public clause cites them.
 pub mod Rows
-pub mod Joined

@@ -15,6 +15,7 @@
 //! - **`Outcome`** is what a run came to, as a value. `Outcome::text` writes it exactly as `play` prints it (`outcome_text`
 //!   of `specs/Outcomes`). No text that was printed is read again.
 //! - **`put_found`** writes exactly the text of the definition (`explored_text` of `specs/Text`), byte for byte: of all ends, or of the best that meets a goal.
+//! - **`put_end_line`** writes an end in a line (`end_line` of `specs/Lines`).
 //! - **`put_ends`** writes exactly the lines of JSON of the definition (`ends_json` of `specs/JsonLines`). An object's
 //!   text is that of `serde_json` for the value that the definition names (`compact_text`).
 //! - `Sequential::is_of` says whether the files of an end are just what `seq` prints.
@@ -23,6 +24,7 @@
 mod best;
 mod goal;
 mod json_lines;
+mod line;
 mod outcome;
 mod row;
 mod sequential;
@@ -32,6 +34,7 @@ mod text;
 pub use best::best_of;
 pub use goal::{is_contrary, meets, read_goal};
 pub use json_lines::{put_ends, put_read};
+pub use line::put_end_line;
 pub use outcome::Outcome;
 pub use row::Row;
 pub use sequential::Sequential;

@@ -3,7 +3,6 @@ ghost use Rattle.std.specs.Prelude.{◌≡◌, IfOk, OnOk, OnErr};
 ghost use Rattle.mr_script_writer.specs.Repeating.{repeating};
 ghost use Rattle.mr_explore_ends.specs.Rows.{as_end};
 ghost use Rattle.mr_explore_ends.specs.Table.{is_shorter, met, one_more_if, opened};
-ghost use Rattle.mr_explore_ends.specs.inner.Joined.{joined, more};
 
 use crate::outcome::Outcome;
 use mr_script_writer::put_script;
@@ -69,34 +68,12 @@ impl Row {
         Ok(())
     }
 
-    /// The runs of another row came to this end behind those of this one.
-    pub(crate) fn join(&mut self, behind: Row)
-        ensures { as_end self.new ≡ joined (as_end self.old) (as_end behind) }
-    {
-        let runs = sum(self.runs, behind.runs);
-        let stalled = sum(self.stalled, behind.stalled);
-        if self.is_after(behind.faults, behind.events) {
-            self.script = behind.script;
-            self.faults = behind.faults;
-            self.events = behind.events;
-        }
-        self.runs = runs;
-        self.stalled = stalled;
-    }
-
     /// Whether its script has more faults than these, or as many and more events.
     pub(crate) fn is_after(&self, faults: u32, events: usize) -> bool
         ensures { result ≡ is_shorter faults events (as_end self.now) }
     {
         faults < self.faults || (faults == self.faults && events < self.events)
     }
-}
-
-/// So many runs, and so many more.
-pub(crate) fn sum(count: u64, behind: u64) -> u64
-    ensures { result ≡ more count behind }
-{
-    count.saturating_add(behind)
 }
 
 /// One more, if so it is.

@@ -1,13 +1,12 @@
 //! A table of the ends that came.
-ghost use Rattle.std.specs.Prelude.{◌≡◌, ◌<◌, ◌∷◌, ◌++◌, List, length, map, OnOk, OnErr};
+ghost use Rattle.std.specs.Prelude.{◌≡◌, ◌<◌, ◌∷◌, ◌++◌, length, map, OnOk, OnErr};
 ghost use Rattle.mr_explore_ends.specs.Rows.{as_end};
-ghost use Rattle.mr_explore_ends.specs.Table.{Came, ToLimit, ToEnd, all_noted, empty, met, noted, noted_in, opened, table_of};
+ghost use Rattle.mr_explore_ends.specs.Table.{ToLimit, ToEnd, empty, met, noted, noted_in, opened};
 ghost use Rattle.mr_explore_ends.specs.declared.row.Row.{Row};
-ghost use Rattle.mr_explore_ends.specs.inner.Joined.{all_joined, joined_in};
 ghost use Rattle.mr_explore_ends.specs.inner.Rows.{place_from};
 
 use crate::outcome::Outcome;
-use crate::row::{Row, one_more_if, sum};
+use crate::row::{Row, one_more_if};
 use mr_world_events::Event;
 use std::alloc::{AllocError, Global};
 use std::marker::Model;
@@ -73,26 +72,6 @@ impl Table {
         self.past_limit = self.past_limit.saturating_add(1);
     }
 
-    /// The runs of another table were made behind those of this one. It fails where there is no memory; then some of its ends may be in this one.
-    pub fn join(&mut self, behind: Table) -> Result<(), AllocError>
-        ensures { OnOk result ((made : List Came) → behind ≡ table_of made → self.new ≡ all_noted made self.old) }
-    {
-        let Table {
-            rows,
-            runs,
-            past_limit,
-            cut,
-        } = behind;
-        let runs = sum(self.runs, runs);
-        let past_limit = sum(self.past_limit, past_limit);
-        let cut = sum(self.cut, cut);
-        join_rows(&mut self.rows, rows)?;
-        self.runs = runs;
-        self.past_limit = past_limit;
-        self.cut = cut;
-        Ok(())
-    }
-
     /// The ends, in the order in which they came first.
     pub fn rows(&self) -> &[Row]
         ensures { map as_end result.now ≡ self.now.ends }
@@ -138,32 +117,6 @@ fn note_in(
         Some(place) => rows[place].meet(alloc, faults, stalled, events),
         None => {
             rows.push(Row::new(alloc, end, faults, stalled, events)?)?;
-            Ok(())
-        }
-    }
-}
-
-// Rows are joined, each in its turn.
-fn join_rows(rows: &mut Vec<Row>, behind: Vec<Row>) -> Result<(), AllocError>
-    ensures { OnOk result (map as_end rows.new.items ≡ all_joined (map as_end behind.items) (map as_end rows.old.items)) }
-{
-    for row in behind {
-        join_row(rows, row)?;
-    }
-    Ok(())
-}
-
-// The row of the end has the runs of another too, or the other is new.
-fn join_row(rows: &mut Vec<Row>, row: Row) -> Result<(), AllocError>
-    ensures { OnOk result (map as_end rows.new.items ≡ joined_in (as_end row) (map as_end rows.old.items)) }
-{
-    match place_of(rows, &row.end) {
-        Some(place) => {
-            rows[place].join(row);
-            Ok(())
-        }
-        None => {
-            rows.push(row)?;
             Ok(())
         }
     }

@@ -3,7 +3,7 @@ use Rattle.std.proofs.Common.{◌≡◌, ◌⊎◌, inl, inr, ◌&&◌, ◌||◌
 use Rattle.std.specs.Prelude.{if◌then◌else◌}
 use Rattle.std.specs.List.{list_any}
 use Rattle.mr_explore_ends.specs.Outcomes.{Outcome, same_outcome}
-use Rattle.mr_explore_ends.proofs.Joining.{same-is, same-itself}
+use Rattle.mr_explore_ends.proofs.Sameness.{same-is, same-itself}
 use Rattle.mr_explore_least.specs.Laws.{AreLeastOf, EachHasOneEnd, Has, HasEnd, Rises, RowsAreLeast, StandFor}
 use Rattle.mr_explore_least.specs.Table.{Arrival, all_noted, earlier, is_told, noted, placed, rows_of, without}
 use Rattle.mr_explore_least.proofs.Earlier.{SameRun, never_back, never_itself, not_onward, not_so, one_of, one_run, onward, true_and_false}

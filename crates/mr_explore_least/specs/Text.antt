@@ -4,6 +4,7 @@ use Rattle.std.specs.Prelude.{ℕ, Bool, true, false, not, ◌||◌, List, [], �
 use Rattle.std.specs.List.{flat_map, list_all}
 use Rattle.mr_script.specs.declared.expectation.Expectation.{Expectation}
 use Rattle.mr_script_writer.specs.Repeating.{commented, repeating}
+use Rattle.mr_explore_ends.specs.Lines.{end_line}
 use Rattle.mr_explore_ends.specs.Outcomes.{outcome_text}
 use Rattle.mr_explore_ends.specs.Text.{Sequential, counting, is_sequential, marked_line, seen_line}
 use Rattle.mr_explore_least.specs.Table.{Arrival, Table, least_of}
@@ -37,13 +38,29 @@ least_line r = counting (codes "# the least script has ") r.faults (codes " faul
 abbrev pub row_text : Sequential → Arrival → List ℕ
 row_text s r = least_line r ++ commented (outcome_text r.end) ++ seen_line s r.end ++ repeating r.events
 
+-- ---- the table
+
+-- what stands in its columns
+unfoldable pub head_line : List ℕ
+head_line = codes "# faults events marker outcome files winners\n"
+
+-- a row
+abbrev pub row_line : Sequential → Arrival → List ℕ
+row_line s r = end_line s r.faults (length r.events) r.end
+
+-- each end in a line
+abbrev pub table_text : Sequential → List Arrival → List ℕ
+table_text s rows = head_line ++ flat_map (row_line s) rows
+
+-- ---- all of it
+
 -- an end behind an empty line
 abbrev pub row_behind_line : Sequential → Arrival → List ℕ
 row_behind_line s r = 10 ∷ row_text s r
 
--- how many ends came, whether the files are right where the marker is, and all ends
+-- how many ends came, whether the files are right where the marker is, each end in a line, and all ends with their scripts
 abbrev pub all_text : Sequential → ℕ → Table → List ℕ
-all_text s faults t = ends_line faults t ++ marked_line (marked_are_sequential s t.rows) ++ flat_map (row_behind_line s) t.rows
+all_text s faults t = ends_line faults t ++ marked_line (marked_are_sequential s t.rows) ++ table_text s t.rows ++ flat_map (row_behind_line s) t.rows
 
 -- the end of a row, or `none`
 abbrev pub text_or_none : Sequential → Option Arrival → List ℕ

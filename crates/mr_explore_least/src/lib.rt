@@ -13,7 +13,7 @@
 //!   `specs/Laws`).
 //! - **`LeastTable::goal`** answers the first row that meets a goal: the least of all runs that meet it
 //!   (`first_that_meets_a_goal_is_least`).
-//! - **`put_least`** writes exactly the text of the definition (`least_text` of `specs/Text`), byte for byte.
+//! - **`put_least`** writes exactly the text of the definition (`least_text` of `specs/Text`), byte for byte: first a line for each end, then the scripts.
 //!   **`put_least_lines`** writes exactly its lines of JSON (`least_json` of `specs/JsonLines`).
 //!
 //! That a run leads to one end is a premise of these laws (`EachHasOneEnd`).

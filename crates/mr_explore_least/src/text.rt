@@ -3,12 +3,12 @@ ghost use Rattle.std.specs.Prelude.{◌≡◌, ◌++◌, OnOk, false, true};
 ghost use Rattle.std.specs.List.{flat_map};
 ghost use Rattle.std.specs.Option.{option_map};
 ghost use Rattle.mr_explore_least.specs.Rows.{as_arrival};
-ghost use Rattle.mr_explore_least.specs.Text.{all_text, comma_if, ends_line, goal_text, least_line, least_text, of_runs, row_behind_line, row_text, text_or_none};
+ghost use Rattle.mr_explore_least.specs.Text.{all_text, comma_if, ends_line, goal_text, head_line, least_line, least_text, of_runs, row_behind_line, row_line, row_text, table_text, text_or_none};
 
 use crate::least::Least;
 use crate::sequential::marked_are_sequential;
 use crate::table::LeastTable;
-use mr_explore_ends::{Sequential, put_count, put_marked, put_seen};
+use mr_explore_ends::{Sequential, put_count, put_end_line, put_marked, put_seen};
 use mr_script::Expectation;
 use mr_script_writer::{put_comments, put_script};
 use std::alloc::{AllocError, Global};
@@ -43,7 +43,54 @@ fn put_all(
 {
     put_ends_line(out, table, faults)?;
     put_marked(out, marked_are_sequential(table, sequential))?;
+    put_table(out, table, sequential)?;
     put_rows(out, alloc, table, sequential)
+}
+
+// Each end in a line, behind what stands in the columns.
+fn put_table(
+    out: &mut Vec<u8>,
+    table: &LeastTable,
+    sequential: &Sequential,
+) -> Result<(), AllocError>
+    ensures { OnOk result (out.new.items ≡ out.old.items ++ table_text sequential.now table.now.rows) }
+{
+    put_head_line(out)?;
+    put_row_lines(out, table, sequential)
+}
+
+// What stands in the columns.
+#[tactic(auto, unfolding(crate::specs::Text::head_line))]
+fn put_head_line(out: &mut Vec<u8>) -> Result<(), AllocError>
+    ensures { OnOk result (out.new.items ≡ out.old.items ++ head_line) }
+{
+    out.extend_from_slice(b"# faults events marker outcome files winners\n")
+}
+
+// Each end in a line.
+fn put_row_lines(
+    out: &mut Vec<u8>,
+    table: &LeastTable,
+    sequential: &Sequential,
+) -> Result<(), AllocError>
+    ensures { OnOk result (out.new.items ≡ out.old.items ++ flat_map (row_line sequential.now) table.now.rows) }
+{
+    for row in table.rows() {
+        put_row_line(out, row, sequential)?;
+    }
+    Ok(())
+}
+
+fn put_row_line(out: &mut Vec<u8>, row: &Least, sequential: &Sequential) -> Result<(), AllocError>
+    ensures { OnOk result (out.new.items ≡ out.old.items ++ row_line sequential.now (as_arrival row.now)) }
+{
+    put_end_line(
+        out,
+        row.faults,
+        row.events.len() as u64,
+        &row.end,
+        sequential,
+    )
 }
 
 // How many ends came of how many runs.

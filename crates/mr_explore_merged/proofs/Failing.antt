@@ -1,81 +1,64 @@
 -- Why nothing is found, and why nothing is printed.
-use Rattle.std.proofs.Common.{◌≡◌, ◌≤◌, ℕ, List, Result, Ok, Err, IfErr, IsErrAnd, inl, inr, sym, subst}
+use Rattle.std.proofs.Common.{◌≡◌, ◌≤◌, ℕ, List, Result, Ok, Err, IfErr, IsErrAnd, sym, subst}
 use Rattle.std.proofs.lemmas.Result.{err_from_is_err_and}
 use Rattle.mr_sim_commands.specs.declared.fault.SimFault.{SimFault}
 use Rattle.mr_sim_commands.specs.declared.fault.SimFault.TheVariants as fault
-use Rattle.mr_play.specs.Text.{job_line}
 use Rattle.mr_explore_search.specs.Runs.{PassesLimit}
 use Rattle.mr_explore_least.specs.Table.{Table}
-use Rattle.mr_explore.specs.Checks.{IsUnsaid}
-use Rattle.mr_explore.specs.Exploring.{ExploreFails}
 use Rattle.mr_explore.specs.Faults.{most_events}
-use Rattle.mr_explore.specs.Runs.{explored}
-use Rattle.mr_explore_merged.specs.Merged.{MergedFails}
+use Rattle.mr_explore.specs.Runs.{Exploring, IsRunOf, explored}
+use Rattle.mr_explore_merged.specs.Merged.{RunsFail}
+use Rattle.mr_explore_merged.specs.inner.Tried.{SearchStops}
 use Rattle.mr_explore_merged.proofs.Labels.{of_more}
 
--- the run of the input is not there
-pub begins_fails : (most : ℕ) (input : List ℕ) (f : SimFault) → ExploreFails input f → MergedFails most input f
-begins_fails most input fault.NoMemory h = tt
-begins_fails most input fault.JournalMismatch h = tt
-begins_fails most input fault.Full (inl h) = inl h
-begins_fails most input fault.Full (inr h) = inr (inl h)
-begins_fails most input fault.Read h = h
-begins_fails most input fault.Write h = h
-begins_fails most input fault.TooLong h = h
-begins_fails most input (fault.BadCommand n) h = h
-begins_fails most input (fault.BadRecord n) h = h
-begins_fails most input (fault.Job e) h = h
-begins_fails most input fault.Refused h = h
-begins_fails most input fault.JobFailed h = h
-begins_fails most input fault.TurnsSpent h = h
-begins_fails most input (fault.Thread) h = h
+-- there was no memory
+pub no_memory_stops : (most : ℕ) (first : Exploring) (f : SimFault) → f ≡ fault.NoMemory → SearchStops most first f
+no_memory_stops most first f e = subst (SearchStops most first) (sym e) tt
 
--- what fails fails with more faults
-more_fail : (n most : ℕ) (input : List ℕ) (f : SimFault) → n ≤ most → MergedFails n input f → MergedFails most input f
-more_fail n most input fault.NoMemory le h = h
-more_fail n most input fault.JournalMismatch le h = h
-more_fail n most input fault.Full le (inl h) = inl h
-more_fail n most input fault.Full le (inr (inl h)) = inr (inl h)
-more_fail n most input fault.Full le (inr (inr w)) = inr (inr (record { run = w.run; is_run = w.is_run; full = of_more explored most_events n most w.run PassesLimit w.full le }))
-more_fail n most input fault.Read le h = h
-more_fail n most input fault.Write le h = h
-more_fail n most input fault.TooLong le h = h
-more_fail n most input (fault.BadCommand k) le h = h
-more_fail n most input (fault.BadRecord k) le h = h
-more_fail n most input (fault.Job e) le h = h
-more_fail n most input fault.Refused le h = h
-more_fail n most input fault.JobFailed le h = h
-more_fail n most input fault.TurnsSpent le h = h
-more_fail n most input fault.Thread le h = h
-
-pub more_failed : (n most : ℕ) (input : List ℕ) (r : Result Table SimFault) → n ≤ most → IfErr r (MergedFails n input) → IfErr r (MergedFails most input)
-more_failed n most input (Ok t) le h = h
-more_failed n most input (Err f) le h = more_fail n most input f le h
-
--- ---- what was found is not told
-
-unsaid_fails : (most : ℕ) (input : List ℕ) (f : SimFault) → IsUnsaid (job_line input) f → MergedFails most input f
-unsaid_fails most input fault.NoMemory h = tt
-unsaid_fails most input (fault.Job e) h = h
-unsaid_fails most input fault.JournalMismatch h = absurd h
-unsaid_fails most input fault.Full h = absurd h
-unsaid_fails most input fault.Read h = absurd h
-unsaid_fails most input fault.Write h = absurd h
-unsaid_fails most input fault.TooLong h = absurd h
-unsaid_fails most input (fault.BadCommand n) h = absurd h
-unsaid_fails most input (fault.BadRecord n) h = absurd h
-unsaid_fails most input fault.Refused h = absurd h
-unsaid_fails most input fault.JobFailed h = absurd h
-unsaid_fails most input fault.TurnsSpent h = absurd h
-unsaid_fails most input fault.Thread h = absurd h
+-- what stops a search stops one with more faults
+more_stop : (n most : ℕ) (first : Exploring) (f : SimFault) → n ≤ most → SearchStops n first f → SearchStops most first f
+more_stop n most first fault.NoMemory le h = h
+more_stop n most first fault.JournalMismatch le h = h
+more_stop n most first fault.Full le h = of_more explored most_events n most first PassesLimit h le
+more_stop n most first fault.Read le h = h
+more_stop n most first fault.Write le h = h
+more_stop n most first fault.TooLong le h = h
+more_stop n most first (fault.BadCommand k) le h = h
+more_stop n most first (fault.BadRecord k) le h = h
+more_stop n most first (fault.Job e) le h = h
+more_stop n most first fault.Refused le h = h
+more_stop n most first fault.JobFailed le h = h
+more_stop n most first fault.TurnsSpent le h = h
+more_stop n most first fault.Thread le h = h
 
 -- a call that was refused so is handed on
-pub begins_failed : {A : Type 0} (most : ℕ) (input : List ℕ) (f : SimFault) (r : Result A SimFault) → ExploreFails input f → IsErrAnd r (λ g. g ≡ f) → IfErr r (MergedFails most input)
-begins_failed {A} most input f r h is =
+pub stopped_by : {A : Type 0} (n most : ℕ) (first : Exploring) (f : SimFault) (r : Result A SimFault) → n ≤ most → SearchStops n first f → IsErrAnd r (λ g. g ≡ f) → IfErr r (SearchStops most first)
+stopped_by {A} n most first f r le h is =
     let z = err_from_is_err_and r is in
-    subst (λ (y : Result A SimFault). IfErr y (MergedFails most input)) (sym z.1) (subst (MergedFails most input) (sym z.2) (begins_fails most input f h))
+    subst (λ (y : Result A SimFault). IfErr y (SearchStops most first)) (sym z.1) (subst (SearchStops most first) (sym z.2) (more_stop n most first f le h))
 
-pub unsaid_failed : {A : Type 0} (most : ℕ) (input : List ℕ) (f : SimFault) (r : Result A SimFault) → IsUnsaid (job_line input) f → IsErrAnd r (λ g. g ≡ f) → IfErr r (MergedFails most input)
-unsaid_failed {A} most input f r h is =
+pub no_memory_stopped : {A : Type 0} (most : ℕ) (first : Exploring) (f : SimFault) (r : Result A SimFault) → f ≡ fault.NoMemory → IsErrAnd r (λ g. g ≡ f) → IfErr r (SearchStops most first)
+no_memory_stopped {A} most first f r e is =
     let z = err_from_is_err_and r is in
-    subst (λ (y : Result A SimFault). IfErr y (MergedFails most input)) (sym z.1) (subst (MergedFails most input) (sym z.2) (unsaid_fails most input f h))
+    subst (λ (y : Result A SimFault). IfErr y (SearchStops most first)) (sym z.1) (subst (SearchStops most first) (sym z.2) (no_memory_stops most first f e))
+
+-- the search stops over the runs of an input
+stops_fail : (most : ℕ) (input : List ℕ) (first : Exploring) (f : SimFault) → IsRunOf input first → SearchStops most first f → RunsFail most input f
+stops_fail most input first fault.NoMemory is h = tt
+stops_fail most input first fault.JournalMismatch is h = tt
+stops_fail most input first fault.Full is h = record { run = first; is_run = is; full = h }
+stops_fail most input first fault.Read is h = h
+stops_fail most input first fault.Write is h = h
+stops_fail most input first fault.TooLong is h = h
+stops_fail most input first (fault.BadCommand k) is h = h
+stops_fail most input first (fault.BadRecord k) is h = h
+stops_fail most input first (fault.Job e) is h = h
+stops_fail most input first fault.Refused is h = h
+stops_fail most input first fault.JobFailed is h = h
+stops_fail most input first fault.TurnsSpent is h = h
+stops_fail most input first fault.Thread is h = h
+
+pub stops_failed : {A : Type 0} (most : ℕ) (input : List ℕ) (first : Exploring) (f : SimFault) (r : Result A SimFault) → IsRunOf input first → SearchStops most first f → IsErrAnd r (λ g. g ≡ f) → IfErr r (RunsFail most input)
+stops_failed {A} most input first f r run h is =
+    let z = err_from_is_err_and r is in
+    subst (λ (y : Result A SimFault). IfErr y (RunsFail most input)) (sym z.1) (subst (RunsFail most input) (sym z.2) (stops_fail most input first f run h))

@@ -1,4 +1,4 @@
--- What `explore --merge` finds of an input, and what it prints of that (our own profile). It is told of the set of all runs, not of how they are made.
+-- What `explore` finds of an input, and what it prints of that (our own profile). It is told of the set of all runs, not of how they are made.
 use Rattle.std.specs.Prelude.{◌≡◌, ◌≤◌, ◌<◌, ◌⊎◌, ℕ, true, false, List, Option}
 use Rattle.std.specs.Option.{option_map}
 use Rattle.mr_sim_commands.specs.declared.fault.SimFault.{SimFault}
@@ -30,12 +30,6 @@ use Rattle.mr_explore_merged.specs.declared.question.Question.{Question}
 pub record Finds (most : ℕ) (first : Exploring) (t : Table) : Type 0 where
   pub rows : AreLeast (CameSo most first) (CameCarefully most first) t.rows
   pub limit : t.past_limit ≡ true → SomePassLimit most first
-
--- it was found of the runs of an input
-pub record FindsOf (input : List ℕ) (most : ℕ) (t : Table) : Type 0 where
-  pub run : Exploring
-  pub is_run : IsRunOf input run
-  pub finds : Finds most run t
 
 -- ---- how many faults are tried
 
@@ -87,6 +81,13 @@ pub record WouldPass (most : ℕ) (input : List ℕ) : Type 0 where
 -- a limit is passed by the script, by the start of the first master, or by a run
 abbrev pub IsFullMerged : (most : ℕ) → List ℕ → Type 0
 IsFullMerged most input = IsFullPlay within input ⊎ (CannotStart input ⊎ WouldPass most input)
+
+-- Why nothing is printed of the runs: one would pass a limit. An allocation failure may come at any input, and so may that a search did not end.
+abbrev pub RunsFail : (most : ℕ) → List ℕ → SimFault → Type 0
+RunsFail most input fault.NoMemory = Unit {0}
+RunsFail most input fault.JournalMismatch = Unit {0}
+RunsFail most input fault.Full = WouldPass most input
+RunsFail most input _ = ⊥
 
 -- Why nothing is printed: as of `play`, or a limit is passed. An allocation failure may come at any input, and so may that a search did not end.
 abbrev pub MergedFails : (most : ℕ) → List ℕ → SimFault → Type 0

@@ -1,17 +1,20 @@
-//! What is found of an input: with as many faults as are asked for, or with the fewest by which a run comes to an end that is sought.
+//! What is found of the runs that come of one: with as many faults as are asked for, or with the fewest by which a run comes to an end that is sought.
 
-ghost use Rattle.std.specs.Prelude.{◌≡◌, Some, None, is_some, IfOk, IfErr};
+ghost use Rattle.std.specs.Prelude.{◌≡◌, ℕ, List, Some, None, is_some, IfOk, IfErr};
+ghost use Rattle.std.specs.Option.{option_map};
+ghost use Rattle.mr_sim_commands.specs.declared.fault.SimFault.TheVariants as fault;
+ghost use Rattle.mr_explore.specs.Runs.{Exploring, IsRunOf};
 ghost use Rattle.mr_explore_least.specs.Table.{least_of};
-ghost use Rattle.mr_explore_merged.specs.Merged.{FindsOf, IsFoundOf, MergedFails, sought};
+ghost use Rattle.mr_explore_merged.specs.Merged.{AreEnough, Finds};
+ghost use Rattle.mr_explore_merged.specs.inner.Tried.{SearchStops};
 
-use crate::question::Question;
-use crate::searching::{search, search_by_threads};
-use mr_explore::Watch;
+use crate::run::MergedRun;
+use mr_explore::sim_fault;
 use mr_explore_least::LeastTable;
+use mr_explore_search::Run;
 use mr_script::Expectation;
 use mr_sim_commands::SimFault;
 use std::alloc::Global;
-use std::thread::Threads;
 
 /// The least runs of all with at most so many faults.
 #[derive(Drop)]
@@ -20,40 +23,53 @@ pub(crate) struct LeastFound {
     pub(crate) table: LeastTable,
 }
 
-/// What is found of an input by one thread.
-pub(crate) fn found<W: Watch>(
+/// What is found of the runs that come of this one. `search` makes the table of those with at most so many faults, by one thread or by several, of a copy.
+pub(crate) fn found<S>(
     alloc: Global,
-    input: &[u8],
-    asked: &Question<'_>,
-    watch: &W,
+    run: &MergedRun,
+    goal: Option<&[Expectation]>,
+    most: u32,
+    search: &S,
 ) -> Result<LeastFound, SimFault>
-    ensures found { IfOk result (λ found. IsFoundOf asked.now.faults (sought asked.now) input.now found.faults found.table) }
-    ensures fault { IfErr result (MergedFails asked.now.faults input.now) }
+where
+    S: Fn(MergedRun, u32) -> Result<LeastTable, SimFault>,
+    requires may { (first : Exploring) (n : ℕ) → S.pre search.now first n }
+    requires finds { (first : Exploring) (n : ℕ) (told : _) → S.post search.now first n told → (input : List ℕ) → IsRunOf input first → IfOk told (Finds n first) }
+    requires stops { (first : Exploring) (n : ℕ) (told : _) → S.post search.now first n told → IfErr told (SearchStops n first) }
+    ensures found { (input : List ℕ) → IsRunOf input run.now → IfOk result (λ found. AreEnough most (option_map (λ g. g.now) goal.entry) run.now found.faults found.table) }
+    ensures fault { IfErr result (SearchStops most run.now) }
 {
-    match asked.goal {
-        Some(goal) => found_with(alloc, input, goal, asked.faults, watch),
-        None => found_of_all(alloc, input, asked.faults, watch),
+    match goal {
+        Some(goal) => found_with(alloc, run, goal, most, search),
+        None => found_of_all(alloc, run, most, search),
     }
 }
 
 // With the fewest faults by which a run meets the goal; with `most` where none does.
-fn found_with<W: Watch>(
+fn found_with<S>(
     alloc: Global,
-    input: &[u8],
+    run: &MergedRun,
     goal: &[Expectation],
     most: u32,
-    watch: &W,
+    search: &S,
 ) -> Result<LeastFound, SimFault>
-    ensures found { IfOk result (λ found. IsFoundOf most (Some goal.now) input.now found.faults found.table) }
-    ensures fault { IfErr result (MergedFails most input.now) }
+where
+    S: Fn(MergedRun, u32) -> Result<LeastTable, SimFault>,
+    requires may { (first : Exploring) (n : ℕ) → S.pre search.now first n }
+    requires finds { (first : Exploring) (n : ℕ) (told : _) → S.post search.now first n told → (input : List ℕ) → IsRunOf input first → IfOk told (Finds n first) }
+    requires stops { (first : Exploring) (n : ℕ) (told : _) → S.post search.now first n told → IfErr told (SearchStops n first) }
+    ensures found { (input : List ℕ) → IsRunOf input run.now → IfOk result (λ found. AreEnough most (Some goal.now) run.now found.faults found.table) }
+    ensures fault { IfErr result (SearchStops most run.now) }
 {
     for faults in 0..most {
-        let table = search(alloc, input, faults, most, watch)?;
+        let first = fork(alloc, run)?;
+        let table = search(first, faults)?;
         if is_met(&table, goal) {
             return Ok(LeastFound { faults, table });
         }
     }
-    let last = search(alloc, input, most, most, watch)?;
+    let own = fork(alloc, run)?;
+    let last = search(own, most)?;
     Ok(LeastFound {
         faults: most,
         table: last,
@@ -61,18 +77,34 @@ fn found_with<W: Watch>(
 }
 
 // Where no end is sought.
-#[tactic(auto, using(crate::proofs::Trying::none_sought))]
-fn found_of_all<W: Watch>(
+fn found_of_all<S>(
     alloc: Global,
-    input: &[u8],
+    run: &MergedRun,
     faults: u32,
-    watch: &W,
+    search: &S,
 ) -> Result<LeastFound, SimFault>
-    ensures found { IfOk result (λ found. IsFoundOf faults None input.now found.faults found.table) }
-    ensures fault { IfErr result (MergedFails faults input.now) }
+where
+    S: Fn(MergedRun, u32) -> Result<LeastTable, SimFault>,
+    requires may { (first : Exploring) (n : ℕ) → S.pre search.now first n }
+    requires finds { (first : Exploring) (n : ℕ) (told : _) → S.post search.now first n told → (input : List ℕ) → IsRunOf input first → IfOk told (Finds n first) }
+    requires stops { (first : Exploring) (n : ℕ) (told : _) → S.post search.now first n told → IfErr told (SearchStops n first) }
+    ensures found { (input : List ℕ) → IsRunOf input run.now → IfOk result (λ found. AreEnough faults None run.now found.faults found.table) }
+    ensures fault { IfErr result (SearchStops faults run.now) }
 {
-    let table = search(alloc, input, faults, faults, watch)?;
+    let own = fork(alloc, run)?;
+    let table = search(own, faults)?;
     Ok(LeastFound { faults, table })
+}
+
+// A run of its own, as far as this one.
+fn fork(alloc: Global, run: &MergedRun) -> Result<MergedRun, SimFault>
+    ensures is { IfOk result (λ copy. copy ≡ run.now) }
+    ensures fault { IfErr result (λ e. e ≡ fault.NoMemory) }
+{
+    match run.fork(alloc) {
+        Ok(copy) => Ok(copy),
+        Err(fault) => Err(sim_fault(fault)),
+    }
 }
 
 // Whether a row meets the goal.
@@ -83,65 +115,4 @@ fn is_met(table: &LeastTable, goal: &[Expectation]) -> bool
         Some(_) => true,
         None => false,
     }
-}
-
-/// What is found of an input by so many threads.
-pub(crate) fn found_by_threads<R: Threads + Sync, W: Watch>(
-    rt: &R,
-    alloc: Global,
-    threads: usize,
-    input: &[u8],
-    asked: &Question<'_>,
-    watch: &W,
-) -> Result<LeastFound, SimFault>
-    ensures found { IfOk result (λ found. IsFoundOf asked.now.faults (sought asked.now) input.now found.faults found.table) }
-    ensures fault { IfErr result (MergedFails asked.now.faults input.now) }
-{
-    match asked.goal {
-        Some(goal) => found_with_by_threads(rt, alloc, threads, input, goal, asked.faults, watch),
-        None => found_of_all_by_threads(rt, alloc, threads, input, asked.faults, watch),
-    }
-}
-
-// The same as `found_with`, by so many threads.
-fn found_with_by_threads<R: Threads + Sync, W: Watch>(
-    rt: &R,
-    alloc: Global,
-    threads: usize,
-    input: &[u8],
-    goal: &[Expectation],
-    most: u32,
-    watch: &W,
-) -> Result<LeastFound, SimFault>
-    ensures found { IfOk result (λ found. IsFoundOf most (Some goal.now) input.now found.faults found.table) }
-    ensures fault { IfErr result (MergedFails most input.now) }
-{
-    for faults in 0..most {
-        let table = search_by_threads(rt, alloc, threads, input, faults, most, watch)?;
-        if is_met(&table, goal) {
-            return Ok(LeastFound { faults, table });
-        }
-    }
-    let last = search_by_threads(rt, alloc, threads, input, most, most, watch)?;
-    Ok(LeastFound {
-        faults: most,
-        table: last,
-    })
-}
-
-// The same as `found_of_all`, by so many threads.
-#[tactic(auto, using(crate::proofs::Trying::none_sought))]
-fn found_of_all_by_threads<R: Threads + Sync, W: Watch>(
-    rt: &R,
-    alloc: Global,
-    threads: usize,
-    input: &[u8],
-    faults: u32,
-    watch: &W,
-) -> Result<LeastFound, SimFault>
-    ensures found { IfOk result (λ found. IsFoundOf faults None input.now found.faults found.table) }
-    ensures fault { IfErr result (MergedFails faults input.now) }
-{
-    let table = search_by_threads(rt, alloc, threads, input, faults, faults, watch)?;
-    Ok(LeastFound { faults, table })
 }

@@ -1,10 +1,10 @@
 //! Each end of all runs of an input with few faults, and its least script.
 //!
-//! It is what `mrsim explore --merge` prints: runs that go on alike are made once.
+//! It is what `mrsim explore` prints: runs that go on alike are made once.
 //!
 //! # What is proved
 //!
-//! - **What is printed** (`merged_output`, for every input): exactly the text of the definitions (`PrintsMerged` of `specs/Merged`), byte
+//! - **What is printed** (`merged_output`, for the start of every input): exactly the text of the definitions (`PrintsMerged` of `specs/Merged`), byte
 //!   for byte. Each row is of a run of the definition with at most as many faults as are asked for. Each such run of which no look-ahead passes a limit has a
 //!   row with its end, and does not come before that row's run. The rows rise.
 //! - **Where an end is sought** the text tells the least number of faults with which it is met (`AreEnough`).
@@ -28,10 +28,10 @@
 //!   at first (mr_explore_places): less than half of the events is left.
 //! - **A place holds a whole run.** The number of rows does not look at how large that is: behind a script that starts 1,000 masters a search by one fault
 //!   took 6.4 GB.
-//! - **A goal** is sought by 0 faults, then by 1, and so on. A job with one split has 1, 1,148 and 847,413 runs with at most 0, 1 and 2 faults, so the
+//! - **A goal** is sought by 0 faults, then by 1, and so on, each time from a copy of the run that the script left. A job with one split has 1, 1,148 and 847,413 runs with at most 0, 1 and 2 faults, so the
 //!   earlier searches cost little.
-//! - **Threads** are mr_explore_workers'. They share the parts that they search.
-//! - **A run that a limit ends** is told as of `explore`, where one was found: the ends are then `not` those `of all runs`.
+//! - **Threads** are mr_explore_workers'. They share the parts that they search. How a table is made, by one thread or by several, is handed in (`found`).
+//! - **A run that a limit ends** is told where one was found: the ends are then `not` those `of all runs`.
 //!
 //! # How it is proved
 //!

@@ -1,73 +1,74 @@
-//! The output of `explore --merge`.
+//! The output of `explore`.
 
-ghost use Rattle.std.specs.Prelude.{◌≡◌, true, IfOk, IfErr};
+ghost use Rattle.std.specs.Prelude.{◌≡◌, true, ℕ, List, IfOk, IfErr};
 ghost use Rattle.std.specs.Option.{option_map};
-ghost use Rattle.mr_explore_merged.specs.Merged.{IsFoundOf, MergedFails, PrintsMerged, sought, told_text};
+ghost use Rattle.mr_explore.specs.Runs.{IsRunOf};
+ghost use Rattle.mr_explore.specs.Starts.{IsStartOf};
+ghost use Rattle.mr_explore_merged.specs.Merged.{Finds, PrintsMerged, RunsFail, told_text};
+ghost use Rattle.mr_explore_merged.specs.inner.Tried.{SearchStops};
 
-use crate::finding::{LeastFound, found, found_by_threads};
+use crate::finding::{LeastFound, found};
 use crate::question::Question;
-use mr_explore::{Form, Watch, sequential_of};
+use crate::run::MergedRun;
+use crate::searching::{search, search_by_threads};
+use mr_explore::{Form, Start, Watch};
 use mr_explore_ends::Sequential;
-use mr_explore_least::{put_least, put_least_lines};
+use mr_explore_least::{LeastTable, put_least, put_least_lines};
 use mr_script::Expectation;
 use mr_sim_commands::{Printed, SimFault};
 use std::alloc::{AllocError, Global};
 use std::thread::Threads;
 
-/// What `explore --merge` prints of an input, which is a job text and a script behind it: each end of all runs of the input with at most
-/// `asked.faults` faults, and the least script to it. Where an end is sought, runs with more faults than it needs are not asked for.
+/// What `explore` prints of an input, of which this is the start: each end of all runs of the input with at most `asked.faults` faults, and the
+/// least script to it. Where an end is sought, runs with more faults than it needs are not asked for. One thread makes all runs.
 ///
-/// The first bad key of the job text is told (`Job`), else the first bad line of the script (`BadCommand`). Else `Full` is told where the script,
-/// the start of the first master, or one of these runs would pass a limit of the world. `NoMemory` may come at any input. `JournalMismatch` would
-/// come where a search did not end.
+/// `Full` comes where one of these runs would pass a limit of the world. `JournalMismatch` would come where a search did not end. Else only
+/// `NoMemory` comes.
 pub fn merged_output<W: Watch>(
     alloc: Global,
-    input: &[u8],
+    start: Start,
     asked: &Question<'_>,
     watch: &W,
 ) -> Result<Printed, SimFault>
-    ensures ok { IfOk result (λ v. PrintsMerged asked.now input.now v.text.items) }
+    ensures ok { (input : List ℕ) → IsStartOf input start → IfOk result (λ v. PrintsMerged asked.now input v.text.items) }
     ensures met { IfOk result (λ v. v.met ≡ true) }
-    ensures fault { IfErr result (MergedFails asked.now.faults input.now) }
+    ensures fault { (input : List ℕ) → IsStartOf input start → IfErr result (RunsFail asked.now.faults input) }
 {
-    let least = found(alloc, input, asked, watch)?;
-    merged_text(alloc, input, &least, asked)
+    let Start { run, beside } = start;
+    let searched = |first: MergedRun, faults: u32| -> Result<LeastTable, SimFault>
+        ensures finds { (input : List ℕ) → IsRunOf input first → IfOk result (Finds faults first) }
+        ensures fault { IfErr result (SearchStops faults first) }
+    { search(alloc, first, faults, watch) };
+    let first = MergedRun::new(run);
+    let least = found(alloc, &first, asked.goal, asked.faults, &searched)?;
+    let text = told(alloc, &least, &beside.sequential, asked.goal, asked.form)?;
+    Ok(beside.printed(text))
 }
 
-/// What `explore --merge` prints of an input, as `merged_output` has it, by so many threads.
+/// The same, by so many threads.
 ///
-/// Its faults are those of `merged_output`. One thread makes all runs where fewer than two are asked for, or where a run has one fault at most.
+/// One thread makes all runs where fewer than two are asked for, or where a run has one fault at most.
 pub fn merged_by_threads<R: Threads + Sync, W: Watch>(
     rt: &R,
     alloc: Global,
     threads: usize,
-    input: &[u8],
+    start: Start,
     asked: &Question<'_>,
     watch: &W,
 ) -> Result<Printed, SimFault>
-    ensures ok { IfOk result (λ v. PrintsMerged asked.now input.now v.text.items) }
+    ensures ok { (input : List ℕ) → IsStartOf input start → IfOk result (λ v. PrintsMerged asked.now input v.text.items) }
     ensures met { IfOk result (λ v. v.met ≡ true) }
-    ensures fault { IfErr result (MergedFails asked.now.faults input.now) }
+    ensures fault { (input : List ℕ) → IsStartOf input start → IfErr result (RunsFail asked.now.faults input) }
 {
-    let least = found_by_threads(rt, alloc, threads, input, asked, watch)?;
-    merged_text(alloc, input, &least, asked)
-}
-
-// What is printed of what was found.
-fn merged_text(
-    alloc: Global,
-    input: &[u8],
-    found: &LeastFound,
-    asked: &Question<'_>,
-) -> Result<Printed, SimFault>
-    requires { IsFoundOf asked.now.faults (sought asked.now) input.now found.now.faults found.now.table }
-    ensures ok { IfOk result (λ v. PrintsMerged asked.now input.now v.text.items) }
-    ensures met { IfOk result (λ v. v.met ≡ true) }
-    ensures fault { IfErr result (MergedFails asked.now.faults input.now) }
-{
-    let (sequential, idle_keys) = sequential_of(alloc, input)?;
-    let text = told(alloc, found, &sequential, asked.goal, asked.form)?;
-    Ok(Printed::plain(alloc, text, idle_keys))
+    let Start { run, beside } = start;
+    let searched = |first: MergedRun, faults: u32| -> Result<LeastTable, SimFault>
+        ensures finds { (input : List ℕ) → IsRunOf input first → IfOk result (Finds faults first) }
+        ensures fault { IfErr result (SearchStops faults first) }
+    { search_by_threads(rt, alloc, threads, first, faults, watch) };
+    let first = MergedRun::new(run);
+    let least = found(alloc, &first, asked.goal, asked.faults, &searched)?;
+    let text = told(alloc, &least, &beside.sequential, asked.goal, asked.form)?;
+    Ok(beside.printed(text))
 }
 
 // What was found, in this form.

@@ -1,7 +1,6 @@
 //! A run of a job, as a search finds it and a table notes it.
-ghost use Rattle.std.specs.Prelude.{◌≡◌, false, IfOk, IfErr};
-ghost use Rattle.mr_explore.specs.Exploring.{ExploreFails};
-ghost use Rattle.mr_explore.specs.Runs.{IsRunOf, explored};
+ghost use Rattle.std.specs.Prelude.{◌≡◌, false};
+ghost use Rattle.mr_explore.specs.Runs.{explored};
 ghost use Rattle.mr_explore_likeness.specs.Runs.{before, ends, like, rest, void};
 ghost use Rattle.mr_explore_merged.specs.Came.{end_of, events_of};
 
@@ -12,7 +11,6 @@ use mr_explore_ends::Outcome;
 use mr_explore_noted::NotedRun;
 use mr_explore_places::MarkedRun;
 use mr_explore_search::{Run, WalkFault};
-use mr_sim_commands::SimFault;
 use mr_world_events::Event;
 use std::alloc::{AllocError, Global};
 use std::collections::LinkedList;
@@ -33,15 +31,13 @@ impl Model for MergedRun {
 }
 
 impl MergedRun {
-    /// The run of an input, which is a job text and a script behind it, as `Explored::new` makes it.
-    pub(crate) fn new(alloc: Global, input: &[u8]) -> Result<MergedRun, SimFault>
-        ensures run { IfOk result (IsRunOf input.now) }
-        ensures fault { IfErr result (ExploreFails input.now) }
+    /// This run.
+    pub(crate) fn new(run: Explored) -> MergedRun
+        ensures { result ≡ run }
     {
-        let run = Explored::new(alloc, input)?;
-        Ok(MergedRun {
+        MergedRun {
             run: Compared::new(run),
-        })
+        }
     }
 }
 

@@ -1,9 +1,10 @@
-//! The least runs to the ends of all runs of an input, by one thread or by several.
+//! The least runs to the ends of all runs that come of one, by one thread or by several.
 
-ghost use Rattle.std.specs.Prelude.{◌≡◌, ◌≤◌, ℕ, List, IfOk, IfErr};
+ghost use Rattle.std.specs.Prelude.{◌≡◌, ℕ, List, IfOk, IfErr};
 ghost use Rattle.mr_explore.specs.Faults.{most_events};
 ghost use Rattle.mr_explore.specs.Runs.{IsRunOf};
-ghost use Rattle.mr_explore_merged.specs.Merged.{Finds, FindsOf, MergedFails};
+ghost use Rattle.mr_explore_merged.specs.Merged.{Finds};
+ghost use Rattle.mr_explore_merged.specs.inner.Tried.{SearchStops};
 
 use crate::run::MergedRun;
 use crate::watching::Watching;
@@ -33,35 +34,16 @@ fn bounds_for(faults: u32) -> Bounds
     }
 }
 
-/// What is known of all runs of an input with at most so many faults. It fails as with `most` faults, of which these are no more.
-#[tactic(auto, using(crate::proofs::Failing::begins_fails, crate::proofs::Stopping::finds_of))]
-pub(crate) fn search<W: Watch>(
-    alloc: Global,
-    input: &[u8],
-    faults: u32,
-    most: u32,
-    watch: &W,
-) -> Result<LeastTable, SimFault>
-    requires { faults ≤ most }
-    ensures finds { IfOk result (FindsOf input.now faults) }
-    ensures fault { IfErr result (MergedFails most input.now) }
-{
-    match MergedRun::new(alloc, input) {
-        Ok(run) => search_from(alloc, run, faults, watch),
-        Err(fault) => Err(fault),
-    }
-}
-
-// The same, from the run of the input.
+/// What is known of all runs that come of this one with at most so many faults.
 #[tactic(auto, using(crate::proofs::Stopping::stopped))]
-fn search_from<W: Watch>(
+pub(crate) fn search<W: Watch>(
     alloc: Global,
     run: MergedRun,
     faults: u32,
     watch: &W,
 ) -> Result<LeastTable, SimFault>
     ensures finds { (input : List ℕ) → IsRunOf input run → IfOk result (Finds faults run) }
-    ensures fault { (input : List ℕ) → IsRunOf input run → IfErr result (MergedFails faults input) }
+    ensures fault { IfErr result (SearchStops faults run) }
 {
     match least_runs(alloc, run, bounds_for(faults), &Watching { watch }) {
         Ok(table) => Ok(table),
@@ -69,30 +51,9 @@ fn search_from<W: Watch>(
     }
 }
 
-/// The same as `search`, by so many threads.
-#[tactic(auto, using(crate::proofs::Failing::begins_fails, crate::proofs::Stopping::finds_of))]
-pub(crate) fn search_by_threads<R: Threads + Sync, W: Watch>(
-    rt: &R,
-    alloc: Global,
-    threads: usize,
-    input: &[u8],
-    faults: u32,
-    most: u32,
-    watch: &W,
-) -> Result<LeastTable, SimFault>
-    requires { faults ≤ most }
-    ensures finds { IfOk result (FindsOf input.now faults) }
-    ensures fault { IfErr result (MergedFails most input.now) }
-{
-    match MergedRun::new(alloc, input) {
-        Ok(run) => search_from_by_threads(rt, alloc, threads, run, faults, watch),
-        Err(fault) => Err(fault),
-    }
-}
-
-// The same as `search_from`, by so many threads.
+/// The same, by so many threads.
 #[tactic(auto, using(crate::proofs::Stopping::stopped))]
-fn search_from_by_threads<R: Threads + Sync, W: Watch>(
+pub(crate) fn search_by_threads<R: Threads + Sync, W: Watch>(
     rt: &R,
     alloc: Global,
     threads: usize,
@@ -101,7 +62,7 @@ fn search_from_by_threads<R: Threads + Sync, W: Watch>(
     watch: &W,
 ) -> Result<LeastTable, SimFault>
     ensures finds { (input : List ℕ) → IsRunOf input run → IfOk result (Finds faults run) }
-    ensures fault { (input : List ℕ) → IsRunOf input run → IfErr result (MergedFails faults input) }
+    ensures fault { IfErr result (SearchStops faults run) }
 {
     let bounds = bounds_for(faults);
     match least_runs_by_threads(rt, alloc, threads, run, bounds, &Watching { watch }) {

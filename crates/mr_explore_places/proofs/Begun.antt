@@ -39,7 +39,7 @@ pushed_given (Some t) (Some l) n old given = refl
 pub not_full : {S F : Type 0} (steps : Steps S F) (budget most : ℕ) (first : S) (f : WalkFault) → IsNotFull f → Stops steps budget most first f
 not_full steps budget most first fault.NoMemory h = tt
 not_full steps budget most first fault.Full h = absurd h
-not_full steps budget most first fault.Mismatch h = tt
+not_full steps budget most first fault.Mismatch h = absurd h
 
 module _ {S F : Type 0} (steps : Steps S F) (rest : S → ℕ) (before : S → S → Bool) (void : S → Bool) (like : S → List F → S → List F → Type 0) (ends : S → S → Type 0) (budget most : ℕ) where
   abbrev Searched : (first : S) (parts : List (Level S F)) (kept : Stores S F) (going : List (Underway S F)) (left : List (Level S F)) (found : List (Found S)) → Type 0

@@ -182,7 +182,7 @@ module _ {S F : Type 0} (steps : Steps S F) (rest : S → ℕ) (before : S → S
         by : (y : WalkFault) → StepsOn steps g.here (Err y) q → Advance g kept others old (Err y) going new
         by fault.NoMemory v = λ first parts given found s. tt
         by fault.Full v = λ first parts given found s. would_pass steps budget most first n g.here (subst (λ (z : ℕ). IsOnItsWay steps budget most first z g.here) spare (s.2.go_on g (inl refl)).way) v
-        by fault.Mismatch v = λ first parts given found s. tt
+        by fault.Mismatch v = absurd v
 
   -- a call was refused for another reason than a limit
   pub advance_refused : (g : Underway S F) (kept : Stores S F) (others going : List (Underway S F)) (old new : List (Level S F)) (x : WalkFault) (r : Result (Option (Ended S)) WalkFault) → IsNotFull x → IsErrAnd r (λ y. y ≡ x) → Advance g kept others old r going new

@@ -166,4 +166,4 @@ module _ {S F : Type 0} (steps : Steps S F) (rest : S → ℕ) (before : S → S
           by : (g : WalkFault) → StepsOn steps p (Err g) q → Follows steps rest before void like ends budget most origin old (Err g) new
           by fault.NoMemory v = λ first parts known going left made found way d k theirs. tt
           by fault.Full v = λ first parts known going left made found way d k theirs. let i = f first parts known going left made found way d k in would_pass steps budget most first spare p i.way v
-          by fault.Mismatch v = λ first parts known going left made found way d k theirs. tt
+          by fault.Mismatch v = absurd v

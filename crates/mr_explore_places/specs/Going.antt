@@ -16,7 +16,7 @@ module _ {S F : Type 0} (steps : Steps S F) where
   StepsOn old (Ok false) new = (steps.onward old.run ≡ Ends new.run) × (new.faults ≡ old.faults)
   StepsOn old (Err fault.Full) new = steps.onward old.run ≡ Full
   StepsOn old (Err fault.NoMemory) new = Unit {0}
-  StepsOn old (Err fault.Mismatch) new = Unit {0}
+  StepsOn old (Err fault.Mismatch) new = ⊥
 
   -- the run goes on to its next place; or it has none
   abbrev pub GoesTo : Here S F → Bool → Here S F → Type 0

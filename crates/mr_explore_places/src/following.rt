@@ -48,7 +48,7 @@ pub fn goes_on<R: MarkedRun>(
         Ok(went) => Ok(went),
         Err(WalkFault::Full) => Ok(false),
         Err(WalkFault::NoMemory) => Err(WalkFault::NoMemory),
-        Err(WalkFault::Mismatch) => Err(WalkFault::Mismatch),
+        Err(WalkFault::Mismatch) => unreachable!(),
     }
 }
 

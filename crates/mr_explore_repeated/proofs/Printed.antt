@@ -7,7 +7,7 @@ use Rattle.mr_explore_search.specs.Runs.{Found, Run, PassesLimit}
 use Rattle.mr_explore_search.specs.Laws.{In, RunsAreAllThatDepart}
 use Rattle.mr_explore_ends.specs.Outcomes.{same_outcome}
 use Rattle.mr_explore_ends.specs.Table.{Came, End, Reached, Table, ToEnd, ToLimit, all_noted, empty, is_shorter, met, noted, noted_in, one_more, one_more_if}
-use Rattle.mr_explore_ends.proofs.Joining.{same-is}
+use Rattle.mr_explore_ends.proofs.Sameness.{same-is}
 use Rattle.mr_explore.specs.Ends.{LeadsTo}
 use Rattle.mr_explore.specs.Exploring.{MadeRun, as_found, came, is_cut, is_stalled, outcome_of}
 use Rattle.mr_explore.specs.Runs.{Exploring, explored, world_of}

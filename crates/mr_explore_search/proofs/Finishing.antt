@@ -36,7 +36,7 @@ module _ {S F : Type 0} (steps : Steps S F) (total : ℕ) where
         by : (g : WalkFault) → GoesOn (steps.onward s) (Err g) t → Finishes steps total all first (Err g)
         by fault.NoMemory h = tt
         by fault.Full h = passes all left n first s is few h
-        by fault.Mismatch h = tt
+        by fault.Mismatch h = absurd h
 
 module _ {S F : Type 0} (steps : Steps S F) (most : ℕ) where
   -- ---- what is left of the level
@@ -67,4 +67,4 @@ module _ {S F : Type 0} (steps : Steps S F) (most : ℕ) where
         by : (g : WalkFault) → Finishes steps l.chances.total l.left l.run (Err g) → Turned steps most (l ∷ ls) (Err g) ls
         by fault.NoMemory h = tt
         by fault.Full h = left_alone l ls none late spent nothing ∙ ap (λ xs. xs ++ stack_left steps most ls) h
-        by fault.Mismatch h = tt
+        by fault.Mismatch h = absurd h

@@ -1,4 +1,3 @@
-mod Apart
 mod Coming
 mod Finishing
 mod Looking

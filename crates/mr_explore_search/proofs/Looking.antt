@@ -46,7 +46,7 @@ module _ {S F : Type 0} (steps : Steps S F) (most : ℕ) where
         by : (g : WalkFault) → Looks steps most old (Err g) new → Takes all (Err g) (with_next steps most p new)
         by fault.NoMemory h = ap (λ (q : Option (Next S)). with_next steps most q new) none
         by fault.Full h = absurd h
-        by fault.Mismatch h = ap (λ (q : Option (Next S)). with_next steps most q new) none
+        by fault.Mismatch h = absurd h
 
   -- ---- whether anything comes next
 

@@ -254,7 +254,7 @@ module _ {S F : Type 0} (steps : Steps S F) (most : ℕ) where
       subst (λ (ks : List (Level S F)). Turned steps most (l ∷ ls) (Ok o) ks) (sym k.3) (ended_as l ls k.0 o (all_tried l ls e h ∙ ap (λ xs. xs ++ stack_left steps most ls) (at_end l k.0 k.1)) k.2)
   turned_further l ls (Err fault.Full) new e h k = all_tried l ls e h ∙ (ap (λ xs. xs ++ stack_left steps most ls) (full l k.0 k.1 k.2) ∙ ap (λ ks. PassesLimit ∷ stack_left steps most ks) (sym k.3))
   turned_further l ls (Err fault.NoMemory) new e h k = tt
-  turned_further l ls (Err fault.Mismatch) new e h k = tt
+  turned_further l ls (Err fault.Mismatch) new e h k = absurd k
 
   -- a run that goes on failed to
   pub further_failed : (l : Level S F) (ls new : List (Level S F)) (n : ℕ) (f : WalkFault) (t : S) (r : Result (Option (Ended S)) WalkFault) → l.left ≡ suc n → new ≡ ls → GoesOn (steps.onward l.run) (Err f) t → IsErrAnd r (λ g. g ≡ f) → Further steps l ls r new
@@ -264,7 +264,7 @@ module _ {S F : Type 0} (steps : Steps S F) (most : ℕ) where
         by : (g : WalkFault) → GoesOn (steps.onward l.run) (Err g) t → Further steps l ls (Err g) new
         by fault.NoMemory h = tt
         by fault.Full h = (n, e, h, same)
-        by fault.Mismatch h = tt
+        by fault.Mismatch h = absurd h
 
   -- all was tried, and the level goes on
   pub turned_on : (l m : Level S F) (ls between new : List (Level S F)) (r : Result (Option (Ended S)) WalkFault) → Departed steps most l ls (Some m) between
@@ -294,4 +294,4 @@ module _ {S F : Type 0} (steps : Steps S F) (most : ℕ) where
         by : (g : WalkFault) → Turned steps most (l ∷ rest) (Err g) after → NextOf steps most start (Err g) after
         by fault.NoMemory h = tt
         by fault.Full h = left ∙ (ap (stack_left steps most) is ∙ h)
-        by fault.Mismatch h = tt
+        by fault.Mismatch h = absurd h

@@ -1,7 +1,6 @@
 -- Runs that faults may befall. Steps is what a run is, and Runs all that come of one. Laws is the same without their
--- order, Taking what a walk answers, Parting what is left in parts, and inner what a walk has before it.
+-- order, Taking what a walk answers, and inner what a walk has before it.
 pub mod Laws
-pub mod Parting
 pub mod Runs
 pub mod Steps
 pub mod Taking

@@ -18,11 +18,11 @@ pub record Steps (S F : Type 0) : Type 0 where
   -- What a fault puts off, if it does: that may come later, once, and is no fault.
   pub later : F → Option F
 
--- no limit was passed: there was no memory, or a run could not be made once more
+-- there was no memory: no limit was passed
 abbrev pub IsNotFull : WalkFault → Type 0
 IsNotFull fault.NoMemory = Unit {0}
 IsNotFull fault.Full = ⊥
-IsNotFull fault.Mismatch = Unit {0}
+IsNotFull fault.Mismatch = ⊥
 
 -- what is answered where a run goes on: whether it made a step
 abbrev pub GoesOn : {S : Type 0} → Onward S → Result Bool WalkFault → S → Type 0
@@ -30,7 +30,7 @@ GoesOn o (Ok true) new = o ≡ Goes new
 GoesOn o (Ok false) new = o ≡ Ends new
 GoesOn o (Err fault.Full) new = o ≡ Full
 GoesOn o (Err fault.NoMemory) new = Unit {0}
-GoesOn o (Err fault.Mismatch) new = Unit {0}
+GoesOn o (Err fault.Mismatch) new = ⊥
 
 -- what is answered where a fault is put: whether it befell the run
 abbrev pub Befalls : {S : Type 0} → Option S → Bool → S → Type 0

@@ -11,7 +11,7 @@ Takes old (Ok (Some e)) new = old ≡ Run e.faults e.run ∷ new
 Takes old (Ok None) new = (old ≡ []) × (new ≡ [])
 Takes {S} old (Err fault.Full) new = ((rest : List (Found S)) × (old ≡ PassesLimit ∷ rest)) × (new ≡ [])
 Takes old (Err fault.NoMemory) new = new ≡ []
-Takes old (Err fault.Mismatch) new = new ≡ []
+Takes old (Err fault.Mismatch) new = ⊥
 
 -- whether nothing is left
 abbrev pub no_more : {A : Type 0} → List A → Bool

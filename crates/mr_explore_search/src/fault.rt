@@ -14,7 +14,7 @@ pub enum WalkFault {
     /// The run would pass a limit.
     #[error("full")]
     Full,
-    /// A run that was made could not be made once more.
+    /// A search did not end (of a walk this is never answered).
     #[error("mismatch")]
     Mismatch,
 }

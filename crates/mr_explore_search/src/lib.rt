@@ -12,15 +12,12 @@
 //! - `is_done` says whether none is left.
 //! - It ends: each turn leaves fewer turns to be made.
 //! - It answers `Full` only where the next run would pass a limit, and is at its end after any fault.
-//! - What is left can be taken apart (`Parts`): parts and rest, in their order, are what was left (`whole` of `specs/Parting`), whatever is taken off, walked
-//!   or put back.
 //!
 //! The walk does not promise that a run's own calls end, or that they give no fault where there is memory. That is
 //! for those calls to say.
 #![tactic(auto)]
 
 mod chances;
-mod dividing;
 mod ended;
 mod fault;
 mod laws;
@@ -28,7 +25,6 @@ mod level;
 mod next;
 mod opening;
 mod owed;
-mod parts;
 mod run;
 mod stack;
 mod turn;
@@ -37,6 +33,5 @@ mod walk;
 pub use ended::Ended;
 pub use fault::WalkFault;
 pub use laws::runs_are_all_that_depart;
-pub use parts::Parts;
 pub use run::Run;
 pub use walk::Walk;

@@ -194,8 +194,8 @@ fn run_if<R: Run>(spare: u32, total: u32, run: R) -> Option<Ended<R>>
     }
 }
 
-/// A run goes on by itself, from where all was tried.
-pub fn go_further<R: Run>(
+// A run goes on by itself, from where all was tried.
+fn go_further<R: Run>(
     alloc: Global,
     levels: &mut Stack<Level<R, R::Fault>>,
     level: Level<R, R::Fault>,
@@ -264,8 +264,8 @@ fn depart_late<R: Run>(
     Ok(None)
 }
 
-/// A departure of the level that was on top is tried. Where all were, the level is handed back.
-pub fn depart<R: Run>(
+// A departure of the level that was on top is tried. Where all were, the level is handed back.
+fn depart<R: Run>(
     alloc: Global,
     levels: &mut Stack<Level<R, R::Fault>>,
     most: u64,

@@ -97,6 +97,6 @@ fn look<R: Run>(
         Ok(None) => Ok(None),
         Err(WalkFault::Full) => Ok(Some(Next::PassesLimit)),
         Err(WalkFault::NoMemory) => Err(WalkFault::NoMemory),
-        Err(WalkFault::Mismatch) => Err(WalkFault::Mismatch),
+        Err(WalkFault::Mismatch) => unreachable!(),
     }
 }

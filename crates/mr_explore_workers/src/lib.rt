@@ -1,6 +1,6 @@
 //! The search of mr_explore_noted by several threads.
 //!
-//! `mrsim explore --merge` makes its runs by it.
+//! `mrsim explore` makes its runs by it.
 //!
 //! # What is proved
 //!

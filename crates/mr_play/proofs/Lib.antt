@@ -8,5 +8,6 @@ pub mod Playing
 pub mod Plays
 pub mod Rows
 pub mod Showing
+pub mod Unread
 pub mod Working
 pub mod WorldText

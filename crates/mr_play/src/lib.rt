@@ -9,6 +9,9 @@
 //! **What it refuses** (`PlayFails`): the first bad key of the job text is told, else the first bad line of the script. `Full` is told exactly where there
 //! is no such run, since an event or a work passes a limit. An allocation failure may come at any of these.
 //!
+//! **An input** (`Input`) is read once: `read` reads its job text, and `played` reads the script and plays it, so whoever asks for something between
+//! the two reads nothing again.
+//!
 //! **A player** (`played`): a job's world in which the script was played. Its text is what `play` prints, its world is the cluster of which it is
 //! printed, and it knows which line made which events (`stretches` of `specs/Sources`; `HasPrinted`). The crate above shows more of it. `job` is what it computes, and `cursor`,
 //! `dropped` and `stepped` are what it holds of the calms, exactly. Whoever takes it further is told of two faults alone (`PlayerFault`): no memory, or a limit of the world. What takes memory alone answers `AllocError`.
@@ -37,6 +40,7 @@ mod expectations;
 mod faithful;
 mod fault;
 mod histories;
+mod input;
 mod laws;
 mod memory;
 mod player;
@@ -54,6 +58,7 @@ pub use event_names::{duty_event, wish_event};
 pub use faithful::{marked_files_are_those_of_seq, scripts_are_faithful};
 pub use fault::PlayerFault;
 pub use histories::print_histories;
+pub use input::Input;
 pub use laws::{
     calms_are_permitted, names_are_of_duties_and_wishes, one_play_text, played_rows, scripts_go_on,
 };

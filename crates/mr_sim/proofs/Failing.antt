@@ -7,13 +7,13 @@ use Rattle.mr_sim_commands.specs.Faults.{CommitterFails, HistoryFails, SeqFails}
 use Rattle.mr_trace_svg.specs.declared.part.Part.{Part}
 use Rattle.mr_trace.specs.mr_play.specs.declared.shown.Shown.{Shown}
 use Rattle.mr_trace.specs.mr_play.specs.Text.{PlayFails}
-use Rattle.mr_sim.specs.declared.subcommand.Command.TheVariants.{Committer, CommitterTrace, CommitterJson, Play, PlayShown, PlayDrawn, PlayJson, PlayTree, History, HistoryJson, Seq, Threads, ThreadsSeen, Explore, ExploreMerged}
+use Rattle.mr_sim.specs.declared.subcommand.Command.TheVariants.{Committer, CommitterTrace, CommitterJson, Play, PlayShown, PlayDrawn, PlayJson, PlayTree, History, HistoryJson, Seq, Threads, ThreadsSeen, Explore, ExploreCounted}
 use Rattle.mr_explore.specs.declared.asked.Asked.{Asked}
 use Rattle.mr_explore_merged.specs.declared.question.Question.{Question}
 use Rattle.mr_threads_shown.specs.declared.seen.Seen.{Seen}
 use Rattle.mr_threads.specs.Text.{ShownFails, ThreadsFail}
 use Rattle.mr_threads.proofs.Failing.{nothing_to_print}
-use Rattle.mr_sim.specs.Goals.{MergedSoughtFails, SoughtFails}
+use Rattle.mr_sim.specs.Goals.{CountedFails, SoughtFails}
 use Rattle.mr_sim.specs.Printed.{RefusesText}
 
 pub committer_fails : {A : Type 0} (input : List ℕ) (r : Result A SimFault) → IfErr r (CommitterFails input) → IfErr r (RefusesText Committer input)
@@ -229,7 +229,7 @@ history_json_fails input (Err TurnsSpent) h = h
 history_json_fails input (Err JournalMismatch) h = h
 history_json_fails input (Err Thread) h = h
 
-pub explore_fails : {A : Type 0} (asked : Asked) (progress : Bool) (jobs : Option ℕ) (input : List ℕ) (r : Result A SimFault) → IfErr r (SoughtFails asked input) → IfErr r (RefusesText (Explore asked progress jobs) input)
+pub explore_fails : {A : Type 0} (asked : Question) (progress : Bool) (jobs : Option ℕ) (input : List ℕ) (r : Result A SimFault) → IfErr r (SoughtFails asked input) → IfErr r (RefusesText (Explore asked progress jobs) input)
 explore_fails asked progress jobs input (Ok x) h = h
 explore_fails asked progress jobs input (Err NoMemory) h = h
 explore_fails asked progress jobs input (Err Read) h = h
@@ -245,18 +245,18 @@ explore_fails asked progress jobs input (Err TurnsSpent) h = h
 explore_fails asked progress jobs input (Err JournalMismatch) h = h
 explore_fails asked progress jobs input (Err Thread) h = h
 
-pub merged_fails : {A : Type 0} (asked : Question) (progress : Bool) (jobs : Option ℕ) (input : List ℕ) (r : Result A SimFault) → IfErr r (MergedSoughtFails asked input) → IfErr r (RefusesText (ExploreMerged asked progress jobs) input)
-merged_fails asked progress jobs input (Ok x) h = h
-merged_fails asked progress jobs input (Err NoMemory) h = h
-merged_fails asked progress jobs input (Err Read) h = h
-merged_fails asked progress jobs input (Err Write) h = h
-merged_fails asked progress jobs input (Err TooLong) h = h
-merged_fails asked progress jobs input (Err (BadCommand n)) h = h
-merged_fails asked progress jobs input (Err (BadRecord n)) h = h
-merged_fails asked progress jobs input (Err (Job e)) h = h
-merged_fails asked progress jobs input (Err Refused) h = h
-merged_fails asked progress jobs input (Err Full) h = h
-merged_fails asked progress jobs input (Err JobFailed) h = h
-merged_fails asked progress jobs input (Err TurnsSpent) h = h
-merged_fails asked progress jobs input (Err JournalMismatch) h = h
-merged_fails asked progress jobs input (Err Thread) h = h
+pub counted_fails : {A : Type 0} (asked : Asked) (progress : Bool) (input : List ℕ) (r : Result A SimFault) → IfErr r (CountedFails asked input) → IfErr r (RefusesText (ExploreCounted asked progress) input)
+counted_fails asked progress input (Ok x) h = h
+counted_fails asked progress input (Err NoMemory) h = h
+counted_fails asked progress input (Err Read) h = h
+counted_fails asked progress input (Err Write) h = h
+counted_fails asked progress input (Err TooLong) h = h
+counted_fails asked progress input (Err (BadCommand n)) h = h
+counted_fails asked progress input (Err (BadRecord n)) h = h
+counted_fails asked progress input (Err (Job e)) h = h
+counted_fails asked progress input (Err Refused) h = h
+counted_fails asked progress input (Err Full) h = h
+counted_fails asked progress input (Err JobFailed) h = h
+counted_fails asked progress input (Err TurnsSpent) h = h
+counted_fails asked progress input (Err JournalMismatch) h = h
+counted_fails asked progress input (Err Thread) h = h

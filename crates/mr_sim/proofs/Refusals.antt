@@ -1,7 +1,7 @@
 -- No input is both printed and refused.
 use Rattle.std.proofs.Common.{◌≡◌, Some, None, Ok, Err, sym, ◌∙◌, arith}
 use Rattle.mr_sim_commands.specs.declared.fault.SimFault.TheVariants.{NoMemory, Read, Write, TooLong, BadCommand, BadRecord, Job, Refused, Full, JobFailed, TurnsSpent, JournalMismatch, Thread}
-use Rattle.mr_sim.specs.declared.subcommand.Command.TheVariants.{Committer, CommitterTrace, CommitterJson, Play, PlayShown, PlayDrawn, PlayJson, PlayTree, History, HistoryJson, Seq, Threads, ThreadsSeen, Explore, ExploreMerged}
+use Rattle.mr_sim.specs.declared.subcommand.Command.TheVariants.{Committer, CommitterTrace, CommitterJson, Play, PlayShown, PlayDrawn, PlayJson, PlayTree, History, HistoryJson, Seq, Threads, ThreadsSeen, Explore, ExploreCounted}
 use Rattle.mr_sim.specs.Laws.{PrintedOrRefused}
 use Rattle.mr_trace.specs.mr_world.specs.Limits as limits
 use Rattle.mr_sim_commands.proofs.Readings.{read_or_bad_law}
@@ -31,8 +31,8 @@ printed_or_refused_law HistoryJson input text (BadCommand n) short p h = h.1
 printed_or_refused_law Seq input text (BadCommand n) short p h = h.1
 printed_or_refused_law (Threads turns hold) input text (BadCommand n) short p h = h.1
 printed_or_refused_law (ThreadsSeen turns hold seen) input text (BadCommand n) short p h = h.1
-printed_or_refused_law (Explore asked progress jobs) input text (BadCommand n) short p h = explored_or_refused_law.not_bad_line asked input text n p.1 h.1.1
-printed_or_refused_law (ExploreMerged asked progress jobs) input text (BadCommand n) short p h = merged_or_refused_law.not_bad_line asked input text n p.1 h.1.1
+printed_or_refused_law (ExploreCounted asked progress) input text (BadCommand n) short p h = explored_or_refused_law.not_bad_line asked input text n p.1 h.1.1
+printed_or_refused_law (Explore asked progress jobs) input text (BadCommand n) short p h = merged_or_refused_law.not_bad_line asked input text n p.1 h.1.1
 printed_or_refused_law Committer input text (BadRecord n) short p h = h.1
 printed_or_refused_law CommitterTrace input text (BadRecord n) short p h = h.1
 printed_or_refused_law CommitterJson input text (BadRecord n) short p h = h.1
@@ -46,8 +46,8 @@ printed_or_refused_law HistoryJson input text (BadRecord n) short p h = let y : 
 printed_or_refused_law Seq input text (BadRecord n) short p h = h.1
 printed_or_refused_law (Threads turns hold) input text (BadRecord n) short p h = h.1
 printed_or_refused_law (ThreadsSeen turns hold seen) input text (BadRecord n) short p h = h.1
+printed_or_refused_law (ExploreCounted asked progress) input text (BadRecord n) short p h = h.1
 printed_or_refused_law (Explore asked progress jobs) input text (BadRecord n) short p h = h.1
-printed_or_refused_law (ExploreMerged asked progress jobs) input text (BadRecord n) short p h = h.1
 printed_or_refused_law Committer input text (Job e) short p h = h.1
 printed_or_refused_law CommitterTrace input text (Job e) short p h = h.1
 printed_or_refused_law CommitterJson input text (Job e) short p h = h.1
@@ -61,8 +61,8 @@ printed_or_refused_law HistoryJson input text (Job e) short p h = h.1
 printed_or_refused_law Seq input text (Job e) short p h = let y : Ok p.job ≡ Err e = sym p.said ∙ h.1 in absurd (cc)
 printed_or_refused_law (Threads turns hold) input text (Job e) short p h = let y : Ok p.0.job ≡ Err e = sym p.0.said ∙ h.1 in absurd (cc)
 printed_or_refused_law (ThreadsSeen turns hold seen) input text (Job e) short p h = let y : Ok p.job ≡ Err e = sym p.said ∙ h.1 in absurd (cc)
-printed_or_refused_law (Explore asked progress jobs) input text (Job e) short p h = explored_or_refused_law.not_bad_job asked input text e p.1 h.1
-printed_or_refused_law (ExploreMerged asked progress jobs) input text (Job e) short p h = merged_or_refused_law.not_bad_job asked input text e p.1 h.1
+printed_or_refused_law (ExploreCounted asked progress) input text (Job e) short p h = explored_or_refused_law.not_bad_job asked input text e p.1 h.1
+printed_or_refused_law (Explore asked progress jobs) input text (Job e) short p h = merged_or_refused_law.not_bad_job asked input text e p.1 h.1
 printed_or_refused_law Committer input text Refused short p h = h.1
 printed_or_refused_law CommitterTrace input text Refused short p h = h.1
 printed_or_refused_law CommitterJson input text Refused short p h = h.1
@@ -76,8 +76,8 @@ printed_or_refused_law HistoryJson input text Refused short p h = h.1
 printed_or_refused_law Seq input text Refused short p h = seq_not_both input text p h.1
 printed_or_refused_law (Threads turns hold) input text Refused short p h = h.1
 printed_or_refused_law (ThreadsSeen turns hold seen) input text Refused short p h = h.1
-printed_or_refused_law (Explore asked progress jobs) input text Refused short p h = not_both (goal_of asked) input p.0 h.1
-printed_or_refused_law (ExploreMerged asked progress jobs) input text Refused short p h = not_both (sought asked) input p.0 h.1
+printed_or_refused_law (ExploreCounted asked progress) input text Refused short p h = not_both (goal_of asked) input p.0 h.1
+printed_or_refused_law (Explore asked progress jobs) input text Refused short p h = not_both (sought asked) input p.0 h.1
 printed_or_refused_law Committer input text Full short p h = h.1
 printed_or_refused_law CommitterTrace input text Full short p h = h.1
 printed_or_refused_law CommitterJson input text Full short p h = h.1
@@ -91,8 +91,8 @@ printed_or_refused_law HistoryJson input text Full short p h = h.1
 printed_or_refused_law Seq input text Full short p h = h.1
 printed_or_refused_law (Threads turns hold) input text Full short p h = tt
 printed_or_refused_law (ThreadsSeen turns hold seen) input text Full short p h = tt
-printed_or_refused_law (Explore asked progress jobs) input text Full short p h = explored_or_refused_law.not_full asked input text p.1 h.1.1
-printed_or_refused_law (ExploreMerged asked progress jobs) input text Full short p h = merged_or_refused_law.limit_is_of_a_run asked input text p.1 h.1.1
+printed_or_refused_law (ExploreCounted asked progress) input text Full short p h = explored_or_refused_law.not_full asked input text p.1 h.1.1
+printed_or_refused_law (Explore asked progress jobs) input text Full short p h = merged_or_refused_law.limit_is_of_a_run asked input text p.1 h.1.1
 printed_or_refused_law Committer input text JobFailed short p h = h.1
 printed_or_refused_law CommitterTrace input text JobFailed short p h = h.1
 printed_or_refused_law CommitterJson input text JobFailed short p h = h.1
@@ -106,8 +106,8 @@ printed_or_refused_law HistoryJson input text JobFailed short p h = h.1
 printed_or_refused_law Seq input text JobFailed short p h = h.1
 printed_or_refused_law (Threads turns hold) input text JobFailed short p h = tt
 printed_or_refused_law (ThreadsSeen turns hold seen) input text JobFailed short p h = tt
+printed_or_refused_law (ExploreCounted asked progress) input text JobFailed short p h = h.1
 printed_or_refused_law (Explore asked progress jobs) input text JobFailed short p h = h.1
-printed_or_refused_law (ExploreMerged asked progress jobs) input text JobFailed short p h = h.1
 printed_or_refused_law Committer input text TurnsSpent short p h = h.1
 printed_or_refused_law CommitterTrace input text TurnsSpent short p h = h.1
 printed_or_refused_law CommitterJson input text TurnsSpent short p h = h.1
@@ -121,8 +121,8 @@ printed_or_refused_law HistoryJson input text TurnsSpent short p h = h.1
 printed_or_refused_law Seq input text TurnsSpent short p h = h.1
 printed_or_refused_law (Threads turns hold) input text TurnsSpent short p h = tt
 printed_or_refused_law (ThreadsSeen turns hold seen) input text TurnsSpent short p h = tt
+printed_or_refused_law (ExploreCounted asked progress) input text TurnsSpent short p h = h.1
 printed_or_refused_law (Explore asked progress jobs) input text TurnsSpent short p h = h.1
-printed_or_refused_law (ExploreMerged asked progress jobs) input text TurnsSpent short p h = h.1
 printed_or_refused_law Committer input text JournalMismatch short p h = h.1
 printed_or_refused_law CommitterTrace input text JournalMismatch short p h = h.1
 printed_or_refused_law CommitterJson input text JournalMismatch short p h = h.1
@@ -136,8 +136,8 @@ printed_or_refused_law HistoryJson input text JournalMismatch short p h = h.1
 printed_or_refused_law Seq input text JournalMismatch short p h = h.1
 printed_or_refused_law (Threads turns hold) input text JournalMismatch short p h = tt
 printed_or_refused_law (ThreadsSeen turns hold seen) input text JournalMismatch short p h = tt
+printed_or_refused_law (ExploreCounted asked progress) input text JournalMismatch short p h = h.1
 printed_or_refused_law (Explore asked progress jobs) input text JournalMismatch short p h = tt
-printed_or_refused_law (ExploreMerged asked progress jobs) input text JournalMismatch short p h = tt
 printed_or_refused_law Committer input text Thread short p h = h.1
 printed_or_refused_law CommitterTrace input text Thread short p h = h.1
 printed_or_refused_law CommitterJson input text Thread short p h = h.1
@@ -151,5 +151,5 @@ printed_or_refused_law HistoryJson input text Thread short p h = h.1
 printed_or_refused_law Seq input text Thread short p h = h.1
 printed_or_refused_law (Threads turns hold) input text Thread short p h = tt
 printed_or_refused_law (ThreadsSeen turns hold seen) input text Thread short p h = tt
+printed_or_refused_law (ExploreCounted asked progress) input text Thread short p h = h.1
 printed_or_refused_law (Explore asked progress jobs) input text Thread short p h = h.1
-printed_or_refused_law (ExploreMerged asked progress jobs) input text Thread short p h = h.1

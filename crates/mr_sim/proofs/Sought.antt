@@ -1,153 +1,165 @@
 -- Whether a job has what a goal names.
-use Rattle.std.proofs.Common.{◌≡◌, ℕ, Bool, true, false, List, Option, Result, Ok, Err, IfOk, IfErr, inl, sym, ap, subst, ◌∙◌}
+use Rattle.std.proofs.Common.{◌≡◌, ◌⊎◌, ℕ, Bool, true, false, List, Option, Result, Ok, Err, IfOk, IfErr, IsErrAnd, inl, inr, sym, ap, subst, ◌∙◌}
+use Rattle.std.proofs.lemmas.Result.{err_from_is_err_and}
 use Rattle.mr_sim_commands.specs.declared.fault.JobTextFault.{JobTextFault}
 use Rattle.mr_sim_commands.specs.declared.fault.SimFault.{SimFault}
 use Rattle.mr_sim_commands.specs.declared.fault.SimFault.TheVariants.{NoMemory, Read, Write, TooLong, BadCommand, BadRecord, Job, Refused, Full, JobFailed, TurnsSpent, JournalMismatch, Thread}
 use Rattle.mr_sim_commands.specs.declared.job.submission.Submission.{Submission}
-use Rattle.mr_sim_commands.specs.job.Text.{submission_of, Fails}
-use Rattle.mr_trace.specs.mr_play.specs.Text.{PlayFails, job_line}
+use Rattle.mr_trace.specs.mr_play.specs.Inputs.{ReadFails}
+use Rattle.mr_trace.specs.mr_play.specs.Text.{IsFullPlay}
 use Rattle.mr_trace.specs.mr_world.specs.Limits.{within}
 use Rattle.mr_explore.specs.declared.asked.Asked.{Asked}
-use Rattle.mr_explore.specs.Explored.{ExploredFails, PrintsExplored, goal_of}
+use Rattle.mr_explore.specs.Explored.{IsFullExplored, PrintsExplored, RunsFail, goal_of}
+use Rattle.mr_explore.specs.Exploring.{ExploreFails}
+use Rattle.mr_explore.specs.Runs.{CannotStart}
 use Rattle.mr_script.specs.declared.expectation.Expectation.{Expectation}
 use Rattle.mr_explore_merged.specs.declared.question.Question.{Question}
-use Rattle.mr_explore_merged.specs.Merged.{MergedFails, PrintsMerged, sought}
-use Rattle.mr_sim.specs.Goals.{GoalFails, MergedSoughtFails, Names, PrintsMergedSought, PrintsSought, SoughtFails, can_meet}
+use Rattle.mr_explore_merged.specs.Merged.{IsFullMerged, PrintsMerged, sought}
+use Rattle.mr_explore_merged.specs.Merged as merged
+use Rattle.mr_sim.specs.Goals.{BeginFails, CountedFails, Names, PrintsCounted, PrintsSought, SoughtFails, can_meet}
 
--- a fault of reading the job text
-bad_line : (goal : Option (List Expectation)) (input : List ℕ) (e : SimFault) → Fails e (submission_of (job_line input)) → GoalFails goal input e
-bad_line goal input NoMemory h = tt
-bad_line goal input Read h = absurd h
-bad_line goal input Write h = absurd h
-bad_line goal input TooLong h = absurd h
-bad_line goal input (BadCommand n) h = absurd h
-bad_line goal input (BadRecord n) h = absurd h
-bad_line goal input (Job e) h = h
-bad_line goal input Refused h = absurd h
-bad_line goal input Full h = absurd h
-bad_line goal input JobFailed h = absurd h
-bad_line goal input TurnsSpent h = absurd h
-bad_line goal input JournalMismatch h = absurd h
-bad_line goal input Thread h = absurd h
+-- ---- an input is begun
 
-pub bad_text : (goal : Option (List Expectation)) (input text : List ℕ) (e : SimFault) → text ≡ job_line input → Fails e (submission_of text) → GoalFails goal input e
-bad_text goal input text e first h = bad_line goal input e (subst (λ (t : List ℕ). Fails e (submission_of t)) first h)
+-- its job text is not read
+unread : (goal : Option (List Expectation)) (input : List ℕ) (f : SimFault) → ReadFails input f → BeginFails goal input f
+unread goal input NoMemory h = tt
+unread goal input Read h = absurd h
+unread goal input Write h = absurd h
+unread goal input TooLong h = absurd h
+unread goal input (BadCommand n) h = absurd h
+unread goal input (BadRecord n) h = absurd h
+unread goal input (Job e) h = h
+unread goal input Refused h = absurd h
+unread goal input Full h = absurd h
+unread goal input JobFailed h = absurd h
+unread goal input TurnsSpent h = absurd h
+unread goal input JournalMismatch h = absurd h
+unread goal input Thread h = absurd h
 
--- the job that the job text says has them, or not
-pub names : (goal : Option (List Expectation)) (input text : List ℕ) (job : Submission) (all is : Bool) → text ≡ job_line input → submission_of text ≡ Ok job → is ≡ can_meet job.id job.reduces goal → is ≡ all → Names goal input all
-names goal input text job all is first said told test = record {
-  job = job;
-  said = subst (λ (t : List ℕ). submission_of t ≡ Ok job) first said;
-  are = sym told ∙ test;
-}
+pub unread_failed : {A : Type 0} (goal : Option (List Expectation)) (input : List ℕ) (f : SimFault) (r : Result A SimFault) → ReadFails input f → IsErrAnd r (λ g. g ≡ f) → IfErr r (BeginFails goal input)
+unread_failed {A} goal input f r h is =
+    let z = err_from_is_err_and r is in
+    subst (λ (y : Result A SimFault). IfErr y (BeginFails goal input)) (sym z.1) (subst (BeginFails goal input) (sym z.2) (unread goal input f h))
 
-pub prints_sought : {A : Type 0} (text : A → List ℕ) (asked : Asked) (input : List ℕ) (r : Result A SimFault) → Names (goal_of asked) input true → IfOk r (λ v. PrintsExplored asked input (text v)) → IfOk r (λ v. PrintsSought asked input (text v))
+-- the goal names what its job does not have
+pub absent_failed : {A : Type 0} (goal : Option (List Expectation)) (input : List ℕ) (f : SimFault) (r : Result A SimFault) → Names goal input false → f ≡ Refused → IsErrAnd r (λ g. g ≡ f) → IfErr r (BeginFails goal input)
+absent_failed {A} goal input f r h e is =
+    let z = err_from_is_err_and r is in
+    subst (λ (y : Result A SimFault). IfErr y (BeginFails goal input)) (sym z.1) (subst (BeginFails goal input) (sym (z.2 ∙ e)) h)
+
+-- it has what the goal names, whatever comes next
+pub ok_names : {A : Type 0} (r : Result A SimFault) (goal : Option (List Expectation)) (input : List ℕ) → Names goal input true → IfOk r (λ v. Names goal input true)
+ok_names (Ok v) goal input h = h
+ok_names (Err e) goal input h = tt
+
+-- its script is not played
+pub not_started : {A : Type 0} (goal : Option (List Expectation)) (input : List ℕ) (r : Result A SimFault) → Names goal input true → IfErr r (ExploreFails input) → IfErr r (BeginFails goal input)
+not_started goal input (Ok v) has h = h
+not_started goal input (Err NoMemory) has h = tt
+not_started goal input (Err Read) has h = absurd h
+not_started goal input (Err Write) has h = absurd h
+not_started goal input (Err TooLong) has h = absurd h
+not_started goal input (Err (BadCommand n)) has h = (has, h)
+not_started goal input (Err (BadRecord n)) has h = absurd h
+not_started goal input (Err (Job e)) has h = h
+not_started goal input (Err Refused) has h = absurd h
+not_started goal input (Err Full) has h = (has, h)
+not_started goal input (Err JobFailed) has h = absurd h
+not_started goal input (Err TurnsSpent) has h = absurd h
+not_started goal input (Err JournalMismatch) has h = absurd h
+not_started goal input (Err Thread) has h = absurd h
+
+begin_full : (goal : Option (List Expectation)) (input : List ℕ) (most : ℕ) → Names goal input true × (IsFullPlay within input ⊎ CannotStart input) → Names goal input true × IsFullMerged most input
+begin_full goal input most (has, inl h) = (has, inl h)
+begin_full goal input most (has, inr h) = (has, inr (inl h))
+
+begin_full_counted : (asked : Asked) (input : List ℕ) → Names (goal_of asked) input true × (IsFullPlay within input ⊎ CannotStart input) → Names (goal_of asked) input true × IsFullExplored asked input
+begin_full_counted asked input (has, inl h) = (has, inl h)
+begin_full_counted asked input (has, inr h) = (has, inr (inl h))
+
+-- ---- why nothing is explored
+
+begin_sought : (asked : Question) (input : List ℕ) (f : SimFault) → BeginFails (sought asked) input f → SoughtFails asked input f
+begin_sought asked input NoMemory h = tt
+begin_sought asked input Read h = h
+begin_sought asked input Write h = h
+begin_sought asked input TooLong h = h
+begin_sought asked input (BadCommand n) h = h
+begin_sought asked input (BadRecord n) h = h
+begin_sought asked input (Job e) h = h
+begin_sought asked input Refused h = h
+begin_sought asked input Full h = begin_full (sought asked) input asked.faults h
+begin_sought asked input JobFailed h = h
+begin_sought asked input TurnsSpent h = h
+begin_sought asked input JournalMismatch h = absurd h
+begin_sought asked input Thread h = h
+
+pub begins_not : {A : Type 0} (asked : Question) (input : List ℕ) (f : SimFault) (r : Result A SimFault) → BeginFails (sought asked) input f → IsErrAnd r (λ g. g ≡ f) → IfErr r (SoughtFails asked input)
+begins_not {A} asked input f r h is =
+    let z = err_from_is_err_and r is in
+    subst (λ (y : Result A SimFault). IfErr y (SoughtFails asked input)) (sym z.1) (subst (SoughtFails asked input) (sym z.2) (begin_sought asked input f h))
+
+begin_counted : (asked : Asked) (input : List ℕ) (f : SimFault) → BeginFails (goal_of asked) input f → CountedFails asked input f
+begin_counted asked input NoMemory h = tt
+begin_counted asked input Read h = h
+begin_counted asked input Write h = h
+begin_counted asked input TooLong h = h
+begin_counted asked input (BadCommand n) h = h
+begin_counted asked input (BadRecord n) h = h
+begin_counted asked input (Job e) h = h
+begin_counted asked input Refused h = h
+begin_counted asked input Full h = begin_full_counted asked input h
+begin_counted asked input JobFailed h = h
+begin_counted asked input TurnsSpent h = h
+begin_counted asked input JournalMismatch h = absurd h
+begin_counted asked input Thread h = h
+
+pub counts_not : {A : Type 0} (asked : Asked) (input : List ℕ) (f : SimFault) (r : Result A SimFault) → BeginFails (goal_of asked) input f → IsErrAnd r (λ g. g ≡ f) → IfErr r (CountedFails asked input)
+counts_not {A} asked input f r h is =
+    let z = err_from_is_err_and r is in
+    subst (λ (y : Result A SimFault). IfErr y (CountedFails asked input)) (sym z.1) (subst (CountedFails asked input) (sym z.2) (begin_counted asked input f h))
+
+-- ---- what is printed of its runs, and why nothing is
+
+pub prints_sought : {A : Type 0} (text : A → List ℕ) (asked : Question) (input : List ℕ) (r : Result A SimFault) → Names (sought asked) input true → IfOk r (λ v. PrintsMerged asked input (text v)) → IfOk r (λ v. PrintsSought asked input (text v))
 prints_sought text asked input (Ok v) has h = (has, h)
 prints_sought text asked input (Err e) has h = h
 
-pub fails_sought : {A : Type 0} (asked : Asked) (input : List ℕ) (r : Result A SimFault) → Names (goal_of asked) input true → IfErr r (ExploredFails asked input) → IfErr r (SoughtFails asked input)
-fails_sought asked input (Ok v) has h = h
-fails_sought asked input (Err NoMemory) has h = h
-fails_sought asked input (Err Read) has h = h
-fails_sought asked input (Err Write) has h = h
-fails_sought asked input (Err TooLong) has h = h
-fails_sought asked input (Err (BadCommand n)) has h = (has, h)
-fails_sought asked input (Err (BadRecord n)) has h = h
-fails_sought asked input (Err (Job e)) has h = h
-fails_sought asked input (Err Refused) has h = absurd h
-fails_sought asked input (Err Full) has h = (has, h)
-fails_sought asked input (Err JobFailed) has h = h
-fails_sought asked input (Err TurnsSpent) has h = h
-fails_sought asked input (Err JournalMismatch) has h = has
-fails_sought asked input (Err Thread) has h = h
+pub runs_sought : {A : Type 0} (asked : Question) (input : List ℕ) (r : Result A SimFault) → Names (sought asked) input true → IfErr r (merged.RunsFail asked.faults input) → IfErr r (SoughtFails asked input)
+runs_sought asked input (Ok v) has h = h
+runs_sought asked input (Err NoMemory) has h = tt
+runs_sought asked input (Err Read) has h = absurd h
+runs_sought asked input (Err Write) has h = absurd h
+runs_sought asked input (Err TooLong) has h = absurd h
+runs_sought asked input (Err (BadCommand n)) has h = absurd h
+runs_sought asked input (Err (BadRecord n)) has h = absurd h
+runs_sought asked input (Err (Job e)) has h = absurd h
+runs_sought asked input (Err Refused) has h = absurd h
+runs_sought asked input (Err Full) has h = (has, inr (inr h))
+runs_sought asked input (Err JobFailed) has h = absurd h
+runs_sought asked input (Err TurnsSpent) has h = absurd h
+runs_sought asked input (Err JournalMismatch) has h = has
+runs_sought asked input (Err Thread) has h = absurd h
 
--- the script is played once more
-pub fails_played : {A : Type 0} (asked : Asked) (input : List ℕ) (r : Result A SimFault) → Names (goal_of asked) input true → IfErr r (PlayFails within input) → IfErr r (SoughtFails asked input)
-fails_played asked input (Ok v) has h = h
-fails_played asked input (Err NoMemory) has h = h
-fails_played asked input (Err Read) has h = absurd h
-fails_played asked input (Err Write) has h = absurd h
-fails_played asked input (Err TooLong) has h = absurd h
-fails_played asked input (Err (BadCommand n)) has h = (has, h)
-fails_played asked input (Err (BadRecord n)) has h = absurd h
-fails_played asked input (Err (Job e)) has h = h
-fails_played asked input (Err Refused) has h = absurd h
-fails_played asked input (Err Full) has h = (has, inl h)
-fails_played asked input (Err JobFailed) has h = absurd h
-fails_played asked input (Err TurnsSpent) has h = absurd h
-fails_played asked input (Err JournalMismatch) has h = absurd h
-fails_played asked input (Err Thread) has h = absurd h
+pub prints_counted : {A : Type 0} (text : A → List ℕ) (asked : Asked) (input : List ℕ) (r : Result A SimFault) → Names (goal_of asked) input true → IfOk r (λ v. PrintsExplored asked input (text v)) → IfOk r (λ v. PrintsCounted asked input (text v))
+prints_counted text asked input (Ok v) has h = (has, h)
+prints_counted text asked input (Err e) has h = h
 
--- why a goal is not sought
-pub fails_goal : {A : Type 0} (asked : Asked) (input : List ℕ) (r : Result A SimFault) → IfErr r (GoalFails (goal_of asked) input) → IfErr r (SoughtFails asked input)
-fails_goal asked input (Ok v) h = h
-fails_goal asked input (Err NoMemory) h = h
-fails_goal asked input (Err Read) h = absurd h
-fails_goal asked input (Err Write) h = absurd h
-fails_goal asked input (Err TooLong) h = absurd h
-fails_goal asked input (Err (BadCommand n)) h = absurd h
-fails_goal asked input (Err (BadRecord n)) h = absurd h
-fails_goal asked input (Err (Job e)) h = h
-fails_goal asked input (Err Refused) h = h
-fails_goal asked input (Err Full) h = absurd h
-fails_goal asked input (Err JobFailed) h = absurd h
-fails_goal asked input (Err TurnsSpent) h = absurd h
-fails_goal asked input (Err JournalMismatch) h = absurd h
-fails_goal asked input (Err Thread) h = absurd h
-
--- ---- the same of `explore --merge`
-
-pub prints_merged : {A : Type 0} (text : A → List ℕ) (asked : Question) (input : List ℕ) (r : Result A SimFault) → Names (sought asked) input true → IfOk r (λ v. PrintsMerged asked input (text v)) → IfOk r (λ v. PrintsMergedSought asked input (text v))
-prints_merged text asked input (Ok v) has h = (has, h)
-prints_merged text asked input (Err e) has h = h
-
-pub merged_goal : {A : Type 0} (asked : Question) (input : List ℕ) (r : Result A SimFault) → IfErr r (GoalFails (sought asked) input) → IfErr r (MergedSoughtFails asked input)
-merged_goal asked input (Ok v) h = h
-merged_goal asked input (Err NoMemory) h = h
-merged_goal asked input (Err Read) h = absurd h
-merged_goal asked input (Err Write) h = absurd h
-merged_goal asked input (Err TooLong) h = absurd h
-merged_goal asked input (Err (BadCommand n)) h = absurd h
-merged_goal asked input (Err (BadRecord n)) h = absurd h
-merged_goal asked input (Err (Job e)) h = h
-merged_goal asked input (Err Refused) h = h
-merged_goal asked input (Err Full) h = absurd h
-merged_goal asked input (Err JobFailed) h = absurd h
-merged_goal asked input (Err TurnsSpent) h = absurd h
-merged_goal asked input (Err JournalMismatch) h = absurd h
-merged_goal asked input (Err Thread) h = absurd h
-
-pub merged_sought : {A : Type 0} (asked : Question) (input : List ℕ) (r : Result A SimFault) → Names (sought asked) input true → IfErr r (MergedFails asked.faults input) → IfErr r (MergedSoughtFails asked input)
-merged_sought asked input (Ok v) has h = h
-merged_sought asked input (Err NoMemory) has h = h
-merged_sought asked input (Err Read) has h = h
-merged_sought asked input (Err Write) has h = h
-merged_sought asked input (Err TooLong) has h = h
-merged_sought asked input (Err (BadCommand n)) has h = (has, h)
-merged_sought asked input (Err (BadRecord n)) has h = h
-merged_sought asked input (Err (Job e)) has h = h
-merged_sought asked input (Err Refused) has h = absurd h
-merged_sought asked input (Err Full) has h = (has, h)
-merged_sought asked input (Err JobFailed) has h = h
-merged_sought asked input (Err TurnsSpent) has h = h
-merged_sought asked input (Err JournalMismatch) has h = has
-merged_sought asked input (Err Thread) has h = h
-
-pub merged_played : {A : Type 0} (asked : Question) (input : List ℕ) (r : Result A SimFault) → Names (sought asked) input true → IfErr r (PlayFails within input) → IfErr r (MergedSoughtFails asked input)
-merged_played asked input (Ok v) has h = h
-merged_played asked input (Err NoMemory) has h = h
-merged_played asked input (Err Read) has h = absurd h
-merged_played asked input (Err Write) has h = absurd h
-merged_played asked input (Err TooLong) has h = absurd h
-merged_played asked input (Err (BadCommand n)) has h = (has, h)
-merged_played asked input (Err (BadRecord n)) has h = absurd h
-merged_played asked input (Err (Job e)) has h = h
-merged_played asked input (Err Refused) has h = absurd h
-merged_played asked input (Err Full) has h = (has, inl h)
-merged_played asked input (Err JobFailed) has h = absurd h
-merged_played asked input (Err TurnsSpent) has h = absurd h
-merged_played asked input (Err JournalMismatch) has h = absurd h
-merged_played asked input (Err Thread) has h = absurd h
+pub runs_counted : {A : Type 0} (asked : Asked) (input : List ℕ) (r : Result A SimFault) → Names (goal_of asked) input true → IfErr r (RunsFail asked input) → IfErr r (CountedFails asked input)
+runs_counted asked input (Ok v) has h = h
+runs_counted asked input (Err NoMemory) has h = tt
+runs_counted asked input (Err Read) has h = absurd h
+runs_counted asked input (Err Write) has h = absurd h
+runs_counted asked input (Err TooLong) has h = absurd h
+runs_counted asked input (Err (BadCommand n)) has h = absurd h
+runs_counted asked input (Err (BadRecord n)) has h = absurd h
+runs_counted asked input (Err (Job e)) has h = absurd h
+runs_counted asked input (Err Refused) has h = absurd h
+runs_counted asked input (Err Full) has h = (has, inr (inr h))
+runs_counted asked input (Err JobFailed) has h = absurd h
+runs_counted asked input (Err TurnsSpent) has h = absurd h
+runs_counted asked input (Err JournalMismatch) has h = absurd h
+runs_counted asked input (Err Thread) has h = absurd h
 
 ok_is : (x y : Submission) → ◌≡◌ {A = Result Submission JobTextFault} (Ok x) (Ok y) → x ≡ y
 ok_is x y e = cc

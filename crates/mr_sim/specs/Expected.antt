@@ -4,7 +4,7 @@ use Rattle.mr_trace.specs.mr_play.specs.Text.{IsAsExpected}
 use Rattle.mr_sim.specs.declared.ending.Ending.{Ending}
 use Rattle.mr_sim.specs.declared.ending.Ending.TheVariants.{Done, Unmet}
 use Rattle.mr_sim.specs.declared.subcommand.Command.{Command}
-use Rattle.mr_sim.specs.declared.subcommand.Command.TheVariants.{Committer, CommitterTrace, CommitterJson, Play, PlayShown, PlayDrawn, PlayJson, PlayTree, History, HistoryJson, Seq, Threads, ThreadsSeen, Explore, ExploreMerged}
+use Rattle.mr_sim.specs.declared.subcommand.Command.TheVariants.{Committer, CommitterTrace, CommitterJson, Play, PlayShown, PlayDrawn, PlayJson, PlayTree, History, HistoryJson, Seq, Threads, ThreadsSeen, Explore, ExploreCounted}
 use Rattle.mr_trace.specs.mr_world.specs.Limits.{within}
 
 -- Whether all is as the input expects. Only scripts of `play` expect anything.
@@ -22,8 +22,8 @@ IsMet HistoryJson input met = met ≡ true
 IsMet Seq input met = met ≡ true
 IsMet (Threads turns hold) input met = met ≡ true
 IsMet (ThreadsSeen turns hold seen) input met = met ≡ true
+IsMet (ExploreCounted asked progress) input met = met ≡ true
 IsMet (Explore asked progress jobs) input met = met ≡ true
-IsMet (ExploreMerged asked progress jobs) input met = met ≡ true
 
 -- how the program ends where a subcommand was done
 abbrev pub ending_of : Bool → Ending

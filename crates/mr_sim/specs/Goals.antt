@@ -1,5 +1,5 @@
 -- Which reduces a goal of `explore` names, and which attempts as their winners, and whether the job can have them: our own.
-use Rattle.std.specs.Prelude.{◌≡◌, ℕ, Bool, true, false, ◌&&◌, nat_lt, List, Option, Some, None, Ok}
+use Rattle.std.specs.Prelude.{◌≡◌, ◌⊎◌, ℕ, Bool, true, false, ◌&&◌, nat_lt, List, Option, Some, None, Ok}
 use Rattle.std.specs.List.{list_all}
 use Rattle.mr_ids.specs.Attempt.{Attempt}
 use Rattle.mr_ids.specs.Same.{same_task}
@@ -8,12 +8,15 @@ use Rattle.mr_ids.specs.declared.id.TaskKind.TheVariants.{Reduce}
 use Rattle.mr_script.specs.declared.expectation.Expectation.{Expectation}
 use Rattle.mr_script.specs.declared.expectation.Expectation.TheVariants.{Winner, Marker, Outcome}
 use Rattle.mr_sim_commands.specs.declared.fault.SimFault.{SimFault}
-use Rattle.mr_sim_commands.specs.declared.fault.SimFault.TheVariants.{BadCommand, Full, Job, JournalMismatch, NoMemory, Refused}
+use Rattle.mr_sim_commands.specs.declared.fault.SimFault.TheVariants.{BadCommand, Full, JournalMismatch, Refused}
 use Rattle.mr_sim_commands.specs.declared.job.submission.Submission.{Submission}
 use Rattle.mr_sim_commands.specs.job.Text.{submission_of}
-use Rattle.mr_trace.specs.mr_play.specs.Text.{IsBadPlayJob, IsBadPlayLine, job_line}
+use Rattle.mr_trace.specs.mr_play.specs.Text.{IsBadPlayLine, IsFullPlay, job_line}
+use Rattle.mr_trace.specs.mr_world.specs.Limits.{within}
 use Rattle.mr_explore.specs.declared.asked.Asked.{Asked}
 use Rattle.mr_explore.specs.Explored.{ExploredFails, IsFullExplored, PrintsExplored, goal_of}
+use Rattle.mr_explore.specs.Exploring.{ExploreFails}
+use Rattle.mr_explore.specs.Runs.{CannotStart}
 use Rattle.mr_explore_merged.specs.declared.question.Question.{Question}
 use Rattle.mr_explore_merged.specs.Merged.{IsFullMerged, MergedFails, PrintsMerged, sought}
 
@@ -39,33 +42,32 @@ pub record Names (goal : Option (List Expectation)) (input : List ℕ) (all : Bo
   pub said : submission_of (job_line input) ≡ Ok job
   pub are : can_meet job.id job.reduces goal ≡ all
 
+-- why nothing is explored of an input: the job text has a bad key. Then the goal is looked at: it names a reduce that the job does not have, or an attempt of another task. A
+-- bad line of the script, and a limit that it or the start of the first master passes, are told only where it names none such.
+abbrev pub BeginFails : Option (List Expectation) → List ℕ → SimFault → Type 0
+BeginFails goal input Refused = Names goal input false
+BeginFails goal input (BadCommand n) = Names goal input true × IsBadPlayLine input n
+BeginFails goal input Full = Names goal input true × (IsFullPlay within input ⊎ CannotStart input)
+BeginFails goal input f = ExploreFails input f
+
 -- what `explore` prints of an input whose job can have each winner that the goal names
-abbrev pub PrintsSought : Asked → List ℕ → List ℕ → Type 0
-PrintsSought asked input text = Names (goal_of asked) input true × PrintsExplored asked input text
+abbrev pub PrintsSought : Question → List ℕ → List ℕ → Type 0
+PrintsSought asked input text = Names (sought asked) input true × PrintsMerged asked input text
 
--- why a goal is not sought: the job text has a bad key; or the goal names a reduce that the job does not have, or an attempt of another task
-abbrev pub GoalFails : Option (List Expectation) → List ℕ → SimFault → Type 0
-GoalFails goal input NoMemory = Unit {0}
-GoalFails goal input (Job e) = IsBadPlayJob input e
-GoalFails goal input Refused = Names goal input false
-GoalFails goal input f = ⊥
+-- Why it prints nothing. A fault of the script or of a run is told only where the goal names what the job can have.
+abbrev pub SoughtFails : Question → List ℕ → SimFault → Type 0
+SoughtFails asked input Refused = Names (sought asked) input false
+SoughtFails asked input (BadCommand n) = Names (sought asked) input true × IsBadPlayLine input n
+SoughtFails asked input Full = Names (sought asked) input true × IsFullMerged asked.faults input
+SoughtFails asked input JournalMismatch = Names (sought asked) input true
+SoughtFails asked input f = MergedFails asked.faults input f
 
--- Why it prints nothing. After the job text the goal is looked at: it names a reduce that the job does not have, or an attempt of another task. A fault of the
--- script or of a run is told only where it names none such.
-abbrev pub SoughtFails : Asked → List ℕ → SimFault → Type 0
-SoughtFails asked input Refused = Names (goal_of asked) input false
-SoughtFails asked input (BadCommand n) = Names (goal_of asked) input true × IsBadPlayLine input n
-SoughtFails asked input Full = Names (goal_of asked) input true × IsFullExplored asked input
-SoughtFails asked input JournalMismatch = Names (goal_of asked) input true
-SoughtFails asked input f = ExploredFails asked input f
+-- the same of `explore --count`
+abbrev pub PrintsCounted : Asked → List ℕ → List ℕ → Type 0
+PrintsCounted asked input text = Names (goal_of asked) input true × PrintsExplored asked input text
 
--- the same of `explore --merge`
-abbrev pub PrintsMergedSought : Question → List ℕ → List ℕ → Type 0
-PrintsMergedSought asked input text = Names (sought asked) input true × PrintsMerged asked input text
-
-abbrev pub MergedSoughtFails : Question → List ℕ → SimFault → Type 0
-MergedSoughtFails asked input Refused = Names (sought asked) input false
-MergedSoughtFails asked input (BadCommand n) = Names (sought asked) input true × IsBadPlayLine input n
-MergedSoughtFails asked input Full = Names (sought asked) input true × IsFullMerged asked.faults input
-MergedSoughtFails asked input JournalMismatch = Names (sought asked) input true
-MergedSoughtFails asked input f = MergedFails asked.faults input f
+abbrev pub CountedFails : Asked → List ℕ → SimFault → Type 0
+CountedFails asked input Refused = Names (goal_of asked) input false
+CountedFails asked input (BadCommand n) = Names (goal_of asked) input true × IsBadPlayLine input n
+CountedFails asked input Full = Names (goal_of asked) input true × IsFullExplored asked input
+CountedFails asked input f = ExploredFails asked input f

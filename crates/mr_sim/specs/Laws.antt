@@ -3,7 +3,7 @@ use Rattle.std.specs.Prelude.{ℕ, List}
 use Rattle.mr_sim_commands.specs.declared.fault.SimFault.{SimFault}
 use Rattle.mr_sim_commands.specs.declared.fault.SimFault.TheVariants.{NoMemory, Read, Write, TooLong, BadCommand, BadRecord, Job, Refused, Full, JobFailed, TurnsSpent, JournalMismatch, Thread}
 use Rattle.mr_sim.specs.declared.subcommand.Command.{Command}
-use Rattle.mr_sim.specs.declared.subcommand.Command.TheVariants.{Threads, ThreadsSeen, Explore, ExploreMerged}
+use Rattle.mr_sim.specs.declared.subcommand.Command.TheVariants.{Threads, ThreadsSeen, Explore, ExploreCounted}
 use Rattle.mr_explore.specs.Exploring.{IsTimed}
 use Rattle.mr_explore_merged.specs.Merged.{WouldPass}
 use Rattle.mr_sim.specs.Printed.{IsWithin, Prints, Refuses}
@@ -19,16 +19,15 @@ RunsThreads _ = ⊥
 abbrev pub NeedNotBeFull : Command → List ℕ → Type 0
 NeedNotBeFull (Threads turns hold) input = Unit {0}
 NeedNotBeFull (ThreadsSeen turns hold seen) input = Unit {0}
-NeedNotBeFull (Explore asked progress jobs) input = IsTimed asked.seconds
-NeedNotBeFull (ExploreMerged asked progress jobs) input = WouldPass asked.faults input
+NeedNotBeFull (ExploreCounted asked progress) input = IsTimed asked.seconds
+NeedNotBeFull (Explore asked progress jobs) input = WouldPass asked.faults input
 NeedNotBeFull _ input = ⊥
 
--- the events of runs are made once more
+-- threads run a job, and their run is looked at; or a search may not end
 abbrev pub MakesRunsAgain : Command → Type 0
 MakesRunsAgain (Threads turns hold) = Unit {0}
 MakesRunsAgain (ThreadsSeen turns hold seen) = Unit {0}
 MakesRunsAgain (Explore asked progress jobs) = Unit {0}
-MakesRunsAgain (ExploreMerged asked progress jobs) = Unit {0}
 MakesRunsAgain _ = ⊥
 
 -- A fault that is not of the input itself. Where threads run a job, it depends on the schedule whether it fails, and whether there is a run.

@@ -8,7 +8,7 @@ use Rattle.mr_sim_commands.specs.declared.fault.JobTextFault.{JobTextFault}
 use Rattle.mr_sim_commands.specs.declared.fault.SimFault.{SimFault}
 use Rattle.mr_sim_commands.specs.declared.fault.SimFault.TheVariants.{NoMemory, Read, Write, TooLong, BadCommand, BadRecord, Job, Refused, Full, JobFailed, TurnsSpent, JournalMismatch, Thread}
 use Rattle.mr_sim.specs.declared.subcommand.Command.{Command}
-use Rattle.mr_sim.specs.declared.subcommand.Command.TheVariants.{Committer, CommitterTrace, CommitterJson, Play, PlayShown, PlayDrawn, PlayJson, PlayTree, History, HistoryJson, Seq, Threads, ThreadsSeen, Explore, ExploreMerged}
+use Rattle.mr_sim.specs.declared.subcommand.Command.TheVariants.{Committer, CommitterTrace, CommitterJson, Play, PlayShown, PlayDrawn, PlayJson, PlayTree, History, HistoryJson, Seq, Threads, ThreadsSeen, Explore, ExploreCounted}
 use Rattle.mr_sim_commands.specs.committer.Script.{IsFirstBad}
 use Rattle.mr_sim_commands.specs.committer.Text.{PrintsCommitter}
 use Rattle.mr_sim_commands.specs.history.Text.{PrintsHistory}
@@ -26,7 +26,7 @@ use Rattle.mr_pipe.specs.declared.form.Form.TheVariants.{Text, Json}
 use Rattle.mr_threads.specs.Runs.{IsRead}
 use Rattle.mr_threads.specs.Text.{HasFailed, PrintsSuccess}
 use Rattle.mr_threads_shown.specs.Text.{ShowsRun}
-use Rattle.mr_sim.specs.Goals.{Names, PrintsMergedSought, PrintsSought}
+use Rattle.mr_sim.specs.Goals.{Names, PrintsCounted, PrintsSought}
 use Rattle.mr_sim.specs.Trees.{ListsPlay}
 
 -- ---- what is printed
@@ -46,8 +46,8 @@ Prints HistoryJson input text = TellsHistory input text
 Prints Seq input text = PrintsSeq input text
 Prints (Threads turns hold) input text = PrintsSuccess input text
 Prints (ThreadsSeen turns hold seen) input text = ShowsRun seen input text
+Prints (ExploreCounted asked progress) input text = PrintsCounted asked input text
 Prints (Explore asked progress jobs) input text = PrintsSought asked input text
-Prints (ExploreMerged asked progress jobs) input text = PrintsMergedSought asked input text
 
 -- ---- what is refused
 
@@ -66,8 +66,8 @@ IsBadLine HistoryJson input n = ⊥
 IsBadLine Seq input n = ⊥
 IsBadLine (Threads turns hold) input n = ⊥
 IsBadLine (ThreadsSeen turns hold seen) input n = ⊥
-IsBadLine (Explore asked progress jobs) input n = Names (goal_of asked) input true × IsBadPlayLine input n
-IsBadLine (ExploreMerged asked progress jobs) input n = Names (sought asked) input true × IsBadPlayLine input n
+IsBadLine (ExploreCounted asked progress) input n = Names (goal_of asked) input true × IsBadPlayLine input n
+IsBadLine (Explore asked progress jobs) input n = Names (sought asked) input true × IsBadPlayLine input n
 
 -- the first whole line of a segment that is no record and not the version line at its head
 abbrev pub IsBadRecord : Command → List ℕ → ℕ → Type 0
@@ -84,8 +84,8 @@ IsBadRecord HistoryJson input n = bad_line input ≡ Some n
 IsBadRecord Seq input n = ⊥
 IsBadRecord (Threads turns hold) input n = ⊥
 IsBadRecord (ThreadsSeen turns hold seen) input n = ⊥
+IsBadRecord (ExploreCounted asked progress) input n = ⊥
 IsBadRecord (Explore asked progress jobs) input n = ⊥
-IsBadRecord (ExploreMerged asked progress jobs) input n = ⊥
 
 -- what is wrong with a job text
 abbrev pub IsBadJob : Command → List ℕ → JobTextFault → Type 0
@@ -102,8 +102,8 @@ IsBadJob HistoryJson input e = ⊥
 IsBadJob Seq input e = submission_of input ≡ Err e
 IsBadJob (Threads turns hold) input e = submission_of input ≡ Err e
 IsBadJob (ThreadsSeen turns hold seen) input e = submission_of input ≡ Err e
+IsBadJob (ExploreCounted asked progress) input e = IsBadPlayJob input e
 IsBadJob (Explore asked progress jobs) input e = IsBadPlayJob input e
-IsBadJob (ExploreMerged asked progress jobs) input e = IsBadPlayJob input e
 
 -- the job of a job text refuses a line of a split; or it does not have a reduce that the goal names
 abbrev pub IsRefused : Command → List ℕ → Type 0
@@ -120,8 +120,8 @@ IsRefused HistoryJson input = ⊥
 IsRefused Seq input = RefusesSeq input
 IsRefused (Threads turns hold) input = ⊥
 IsRefused (ThreadsSeen turns hold seen) input = ⊥
-IsRefused (Explore asked progress jobs) input = Names (goal_of asked) input false
-IsRefused (ExploreMerged asked progress jobs) input = Names (sought asked) input false
+IsRefused (ExploreCounted asked progress) input = Names (goal_of asked) input false
+IsRefused (Explore asked progress jobs) input = Names (sought asked) input false
 
 -- an event of a run, or a work, passes a limit
 abbrev pub IsFull : Command → List ℕ → Type 0
@@ -138,8 +138,8 @@ IsFull HistoryJson input = ⊥
 IsFull Seq input = ⊥
 IsFull (Threads turns hold) input = IsRead input
 IsFull (ThreadsSeen turns hold seen) input = IsRead input
-IsFull (Explore asked progress jobs) input = Names (goal_of asked) input true × IsFullExplored asked input
-IsFull (ExploreMerged asked progress jobs) input = Names (sought asked) input true × IsFullMerged asked.faults input
+IsFull (ExploreCounted asked progress) input = Names (goal_of asked) input true × IsFullExplored asked input
+IsFull (Explore asked progress jobs) input = Names (sought asked) input true × IsFullMerged asked.faults input
 
 -- threads ran the job, and no success was told
 abbrev pub IsFailed : Command → List ℕ → Type 0
@@ -152,12 +152,11 @@ IsToRun (Threads turns hold) input = IsRead input
 IsToRun (ThreadsSeen turns hold seen) input = IsRead input
 IsToRun _ input = ⊥
 
--- Runs are made once more, and would not come to what they came to. That this is never so is not proved.
+-- Threads report a run that is not of the plan, or show one that comes to something else once more; or a search did not end. That this is never so is not proved.
 abbrev pub MayMismatch : Command → List ℕ → Type 0
 MayMismatch (Threads turns hold) input = IsRead input
 MayMismatch (ThreadsSeen turns hold seen) input = IsRead input
-MayMismatch (Explore asked progress jobs) input = Names (goal_of asked) input true
-MayMismatch (ExploreMerged asked progress jobs) input = Names (sought asked) input true
+MayMismatch (Explore asked progress jobs) input = Names (sought asked) input true
 MayMismatch _ input = ⊥
 
 -- the text is formed or refused only of an input within the limit

@@ -1,104 +1,29 @@
 //! `explore` with a goal: the job has to have each reduce that the goal names, and each attempt has to be one of it.
-ghost use Rattle.std.specs.Prelude.{◌≡◌, true, IfOk, IfErr, OnOk};
+ghost use Rattle.std.specs.Prelude.{◌≡◌, true, false, IfErr, OnOk};
 ghost use Rattle.std.specs.List.{list_all};
 ghost use Rattle.std.specs.Option.{option_map};
-ghost use Rattle.mr_trace.specs.mr_play.specs.Text.{job_line};
 ghost use Rattle.mr_ids.specs.Same.{same_task};
 ghost use Rattle.mr_ids.specs.declared.id.TaskKind.TheVariants.{Reduce};
-ghost use Rattle.mr_sim.specs.Goals.{GoalFails, MergedSoughtFails, Names, PrintsMergedSought, PrintsSought, SoughtFails, can_be, can_meet, may_win};
+ghost use Rattle.mr_sim_commands.specs.declared.fault.SimFault.TheVariants as fault;
+ghost use Rattle.mr_sim.specs.Goals.{can_be, can_meet, may_win};
 
-use mr_explore::{Asked, Unwatched, Watch, explore_output};
-use mr_explore_merged::{Question, merged_by_threads, merged_output};
-use mr_explore_threads::explore_by_threads;
 use mr_ids::{AttemptId, JobId, TaskId, TaskKind};
-use mr_script::{Expectation, split_once};
-use mr_sim_commands::{Printed, SimFault, read_job_text};
-use std::alloc::Global;
-use std::thread::Threads;
+use mr_script::Expectation;
+use mr_sim_commands::{SimFault, Submission};
 
-/// What `explore` prints of an input, with the faults of `explore_output`. Before all of them but those of the job text comes `Refused`: the goal names
-/// a reduce that the job does not have, or an attempt of another task, so no end can meet it.
-#[tactic(auto, using(crate::proofs::Sought::fails_goal, crate::proofs::Sought::fails_sought))]
-pub(crate) fn explored(alloc: Global, input: &[u8], asked: &Asked<'_>) -> Result<Printed, SimFault>
-    ensures ok { IfOk result (λ v. PrintsSought asked.now input.now v.text.items) }
-    ensures met { IfOk result (λ v. v.met ≡ true) }
-    ensures fault { IfErr result (SoughtFails asked.now input.now) }
+/// Refuses a goal that names a reduce which the job does not have, or an attempt of another task.
+pub(crate) fn check_goal(
+    submission: &Submission,
+    goal: Option<&[Expectation]>,
+) -> Result<(), SimFault>
+    ensures ok { OnOk result (can_meet submission.now.id submission.now.reduces (option_map (λ g. g.now) goal.entry) ≡ true) }
+    ensures refused { IfErr result (λ e. e ≡ fault.Refused) }
+    ensures fault { IfErr result (λ e. can_meet submission.now.id submission.now.reduces (option_map (λ g. g.now) goal.entry) ≡ false) }
 {
-    check_goal(alloc, input, asked.goal)?;
-    explore_output(alloc, input, asked, &Unwatched)
-}
-
-/// The same, by so many threads.
-#[tactic(auto, using(crate::proofs::Sought::fails_goal, crate::proofs::Sought::fails_sought))]
-pub(crate) fn explored_by_threads<R: Threads + Sync, W: Watch>(
-    rt: &R,
-    alloc: Global,
-    threads: usize,
-    input: &[u8],
-    asked: &Asked<'_>,
-    watch: &W,
-) -> Result<Printed, SimFault>
-    ensures ok { IfOk result (λ v. PrintsSought asked.now input.now v.text.items) }
-    ensures met { IfOk result (λ v. v.met ≡ true) }
-    ensures fault { IfErr result (SoughtFails asked.now input.now) }
-{
-    check_goal(alloc, input, asked.goal)?;
-    explore_by_threads(rt, alloc, threads, input, asked, watch)
-}
-
-/// What `explore --merge` prints of an input, with the faults of `merged_output`. Before all of them but those of the job text comes `Refused`, as of `explored`.
-#[tactic(auto, using(crate::proofs::Sought::merged_goal, crate::proofs::Sought::merged_sought))]
-pub(crate) fn merged(alloc: Global, input: &[u8], asked: &Question<'_>) -> Result<Printed, SimFault>
-    ensures ok { IfOk result (λ v. PrintsMergedSought asked.now input.now v.text.items) }
-    ensures met { IfOk result (λ v. v.met ≡ true) }
-    ensures fault { IfErr result (MergedSoughtFails asked.now input.now) }
-{
-    check_goal(alloc, input, asked.goal)?;
-    merged_output(alloc, input, asked, &Unwatched)
-}
-
-/// The same, by so many threads.
-#[tactic(auto, using(crate::proofs::Sought::merged_goal, crate::proofs::Sought::merged_sought))]
-pub(crate) fn merged_with<R: Threads + Sync, W: Watch>(
-    rt: &R,
-    alloc: Global,
-    threads: usize,
-    input: &[u8],
-    asked: &Question<'_>,
-    watch: &W,
-) -> Result<Printed, SimFault>
-    ensures ok { IfOk result (λ v. PrintsMergedSought asked.now input.now v.text.items) }
-    ensures met { IfOk result (λ v. v.met ≡ true) }
-    ensures fault { IfErr result (MergedSoughtFails asked.now input.now) }
-{
-    check_goal(alloc, input, asked.goal)?;
-    merged_by_threads(rt, alloc, threads, input, asked, watch)
-}
-
-// Refuses a goal that names a reduce which the job does not have, or an attempt of another task.
-#[tactic(auto, using(crate::proofs::Sought::bad_text, crate::proofs::Sought::names))]
-fn check_goal(alloc: Global, input: &[u8], goal: Option<&[Expectation]>) -> Result<(), SimFault>
-    ensures ok { OnOk result (Names (option_map (λ g. g.now) goal.entry) input.now true) }
-    ensures fault { IfErr result (GoalFails (option_map (λ g. g.now) goal.entry) input.now) }
-{
-    let job = job_line(input);
-    let submission = read_job_text(alloc, job)?;
-    let are_there = can_meet(submission.id, submission.reduces, goal);
-    drop(submission);
-    if are_there {
+    if can_meet(submission.id, submission.reduces, goal) {
         Ok(())
     } else {
         Err(SimFault::Refused)
-    }
-}
-
-// The job text of an input: its first line.
-fn job_line(input: &[u8]) -> &[u8]
-    ensures { result.now ≡ job_line input.now }
-{
-    match split_once(input, b'\n') {
-        Some((job, _)) => job,
-        None => input,
     }
 }
 

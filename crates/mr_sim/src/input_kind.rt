@@ -32,7 +32,7 @@ impl InputKind {
             | Command::PlayJson
             | Command::PlayTree
             | Command::Explore { .. }
-            | Command::ExploreMerged { .. } => InputKind::JobAndScript,
+            | Command::ExploreCounted { .. } => InputKind::JobAndScript,
         }
     }
 

@@ -1,6 +1,6 @@
 //! The simulator: what `mrsim` reads and writes. The subcommands stand beneath it. Those that need no cluster are in
 //! mr_sim_commands, `play` is in mr_play, and what is shown beside it in mr_trace, mr_trace_picture and mr_trace_json. `explore` is
-//! in mr_explore and mr_explore_threads, and `threads` in mr_threads and mr_threads_shown.
+//! in mr_explore_merged, `explore --count` in mr_explore, and `threads` in mr_threads and mr_threads_shown.
 //!
 //! # What is proved
 //!
@@ -22,8 +22,8 @@
 //! | `play` with a trace, the history or a picture | what mr_trace, mr_play and mr_trace_picture say of that run |
 //! | `play` with the tree | the listing of what the namespace holds then |
 //! | `play` and `history` as lines of JSON | what mr_trace_json says of the run and of the segment |
-//! | `explore` | what mr_explore_ends says of the ends of all runs of the input with at most as many faults as are asked for; the job has each reduce that the goal names, and each attempt that it names is one of that reduce |
-//! | `explore --merge` | what mr_explore_least says of the least runs that mr_explore_merged defines: each end of all runs with at most as many faults as are asked for, with its least script; the goal is as of `explore` |
+//! | `explore` | what mr_explore_least says of the least runs that mr_explore_merged defines: each end of all runs of the input with at most as many faults as are asked for, with its least script; the job has each reduce that the goal names, and each attempt that it names is one of that reduce |
+//! | `explore --count` | what mr_explore_ends says of the ends of the runs that are made; the goal is as of `explore` |
 //! | `threads` | what `seq` prints for the job text; what is shown of a run in its place is what mr_threads_shown says of it |
 //!
 //! **`run_streams`, from a reader to a writer**: reads all, answers, writes all. Proved, for every reader and writer that tell
@@ -53,13 +53,13 @@
 //! (`IsAsExpected` of mr_play); of all else it is true. The ending of the program follows from that (`Remarks::ending`). Where there is a fault it hands out
 //! beside it what was expected in place of what is bad (`Refusal`). The fault is the contract. What the help says is in no clause; where there is no memory for it, less is said.
 //!
-//! Each input has at most one text, by the laws of mr_sim_commands, mr_play and, where no time is given, mr_explore; of `explore --merge`, where no run
-//! comes near a limit, by the law of mr_explore_merged (`one_merged_text`). So what `explore` prints does not
+//! Each input has at most one text, by the laws of mr_sim_commands, mr_play and, where no time is given, mr_explore; of `explore`, where no run
+//! comes near a limit, by the law of mr_explore_merged (`one_merged_text`). So what `explore` prints there does not
 //! depend on how many threads make its runs. No input is both printed and refused, by
 //! any subcommand (`printed_or_refused`). Where there is a text for an input of at most 2^24 bytes, the clause
-//! `fault` leaves only `NoMemory`, `Read` and `Write`. There are four exceptions. Where runs are made once more, it
-//! leaves `JournalMismatch` too. Where threads run a job, whether there is a run and whether it fails depends on the
-//! schedule as well. Where `explore` has a time, how many runs are made depends on that, and so does `Full`. Where `explore --merge` leaves a run out,
+//! `fault` leaves only `NoMemory`, `Read` and `Write`. There are four exceptions. Of `explore` it leaves `JournalMismatch`
+//! too, for a search that does not end. Where threads run a job, whether there is a run and whether it fails depends on the
+//! schedule as well. Where `explore --count` has a time, how many runs are made depends on that, and so does `Full`. Where `explore` leaves a run out,
 //! that run may be one that would pass a limit, so `Full` depends on which runs are left out. The script passes none then, and the first master starts.
 //!
 //! `SimFault::status` is exactly the table of statuses, and `exit_status` is the program's. It is 0 where it was done
@@ -77,6 +77,7 @@
 #![tactic(auto)]
 
 mod ending;
+mod exploring;
 mod goal;
 mod host;
 mod input;

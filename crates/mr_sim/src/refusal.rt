@@ -158,7 +158,7 @@ fn job_help(alloc: Global, kind: InputKind, input: &[u8], fault: JobTextFault) -
 fn refused_help(alloc: Global, command: &Command<'_>, input: &[u8]) -> Option<Help> {
     match command {
         Command::Explore { asked, .. } => goal_help(alloc, line_at(input, 1), asked.goal?),
-        Command::ExploreMerged { asked, .. } => goal_help(alloc, line_at(input, 1), asked.goal?),
+        Command::ExploreCounted { asked, .. } => goal_help(alloc, line_at(input, 1), asked.goal?),
         _ => split_help(alloc, input),
     }
 }

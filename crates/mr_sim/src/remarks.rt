@@ -1,14 +1,11 @@
 //! What is to be told of a run beside its output: whether it was as its script expects, and what is to be noted of it.
 ghost use Rattle.std.specs.Prelude.{◌≡◌, IfOk, IfErr};
-ghost use Rattle.mr_trace.specs.mr_play.specs.Text.{PlayFails};
-ghost use Rattle.mr_trace.specs.mr_world.specs.Limits.{within};
 ghost use Rattle.mr_sim.specs.Expected.{ending_of};
 
 use crate::ending::Ending;
 use mr_sim_commands::{Printed, SimFault};
 use mr_sim_hints::put_idle_keys;
-use mr_trace::mr_play::{Player, played};
-use std::alloc::{AllocError, Global};
+use std::alloc::Global;
 use std::io;
 use std::io::Write;
 
@@ -55,43 +52,4 @@ pub(crate) fn noted(alloc: Global, mut printed: Printed) -> Result<Printed, SimF
 {
     put_idle_keys(&mut printed.notes, alloc, printed.idle_keys.as_slice())?;
     Ok(printed)
-}
-
-/// What was printed of the runs of a job text and a script, with a note for each line of which `play` would tell: an event that is refused, an expectation
-/// that is not met, or a calm that ended otherwise than the line asks.
-///
-/// Its faults are those of `mr_play::played`. Where something was printed of the input, only `NoMemory` comes.
-pub(crate) fn noted_lines(
-    alloc: Global,
-    input: &[u8],
-    printed: Printed,
-) -> Result<Printed, SimFault>
-    ensures text { IfOk result (λ v. v.text ≡ printed.text) }
-    ensures met { IfOk result (λ v. v.met ≡ printed.met) }
-    ensures fault { IfErr result (PlayFails within input.now) }
-{
-    let player = played(alloc, input)?;
-    Ok(with_lines(printed, player)?)
-}
-
-// The same, of who played it.
-fn with_lines(mut printed: Printed, player: Player) -> Result<Printed, AllocError>
-    ensures text { IfOk result (λ v. v.text ≡ printed.text) }
-    ensures met { IfOk result (λ v. v.met ≡ printed.met) }
-{
-    put_lines(&mut printed.notes, &player.told)?;
-    printed.notes.extend_from_slice(&player.notes)?;
-    Ok(printed)
-}
-
-// Lines that begin with their numbers, for standard error.
-fn put_lines(out: &mut Vec<u8>, lines: &[u8]) -> Result<(), AllocError> {
-    for line in lines.split(|byte| *byte == b'\n') {
-        if !line.is_empty() {
-            out.extend_from_slice(b"mrsim: line ")?;
-            out.extend_from_slice(line)?;
-            out.extend_from_slice(b"\n")?;
-        }
-    }
-    Ok(())
 }

@@ -2,15 +2,15 @@
 ghost use Rattle.std.specs.Prelude.{◌≡◌, ◌≢◌, true, IfOk, IfErr, IfSome, OnOk};
 ghost use Rattle.std.specs.Io.KnownBytes.{Appends, Keeps};
 ghost use Rattle.mr_sim.specs.Expected.{IsMet};
-ghost use Rattle.mr_sim.specs.Goals.{MergedSoughtFails, PrintsMergedSought, PrintsSought, SoughtFails};
+ghost use Rattle.mr_sim.specs.Goals.{PrintsSought, SoughtFails};
 ghost use Rattle.mr_sim.specs.Printed.{Prints, Refuses, RefusesText, Writes};
 
-use crate::goal::{explored_by_threads, merged_with};
+use crate::exploring::{counted, explored_by_threads};
 use crate::host::Host;
 use crate::input::read_input;
 use crate::progress::OnStandardError;
 use crate::refusal::Refusal;
-use crate::remarks::{Remarks, noted, noted_lines};
+use crate::remarks::{Remarks, noted};
 use crate::subcommand::{Command, answer, printed};
 use mr_explore::Asked;
 use mr_explore_merged::Question;
@@ -75,42 +75,16 @@ fn helped<H: AllocGlobal + Eprint + Clock + Threads + Wait + Sync>(
     ensures met { IfOk result (λ v. IsMet command.now input.now v.met) }
     ensures fault { IfErr result (λ e. RefusesText command.now input.now e.fault) }
 {
-    match printed_by(rt, command, input) {
+    match hosted(rt, command, input) {
         Ok(printed) => Ok(noted(rt.alloc(), printed)?),
         Err(fault) => Err(Refusal::of(rt.alloc(), command, input, fault)),
     }
 }
 
-// What is printed where there is a handle: threads make the runs of `explore`, with `--merge` too, and run the job of `threads`.
-#[tactic(auto, using(crate::proofs::Failing::explore_fails, crate::proofs::Failing::merged_fails))]
-fn printed_by<H: AllocGlobal + Eprint + Clock + Threads + Wait + Sync>(
+// What is printed where there is a handle: threads make the runs of `explore`, and run the job of `threads`.
+fn hosted<'a, H: AllocGlobal + Eprint + Clock + Threads + Wait + Sync>(
     rt: &H,
-    command: &Command<'_>,
-    input: &[u8],
-) -> Result<Printed, SimFault>
-    ensures ok { IfOk result (λ v. Prints command.now input.now v.text.items) }
-    ensures met { IfOk result (λ v. IsMet command.now input.now v.met) }
-    ensures fault { IfErr result (RefusesText command.now input.now) }
-{
-    match command {
-        Command::Explore {
-            asked,
-            progress,
-            jobs,
-        } => explored_with(rt, input, asked, *progress, *jobs),
-        Command::ExploreMerged {
-            asked,
-            progress,
-            jobs,
-        } => explored_merged(rt, input, asked, *progress, *jobs),
-        _ => hosted(rt, command, input),
-    }
-}
-
-// The same, of all but `explore`: that is made by one thread here.
-fn hosted<H: AllocGlobal + Eprint + Clock + Threads + Wait + Sync>(
-    rt: &H,
-    command: &Command<'_>,
+    command: &Command<'a>,
     input: &[u8],
 ) -> Result<Printed, SimFault>
     ensures ok { IfOk result (λ v. Prints command.now input.now v.text.items) }
@@ -122,16 +96,24 @@ fn hosted<H: AllocGlobal + Eprint + Clock + Threads + Wait + Sync>(
         threads_seen: |turns: Option<u64>, hold: bool, seen: Seen| threads_seen(
             rt, input, turns, hold, seen,
         ),
+        explored: |asked: Question<'_>, progress: bool, jobs: Option<u32>| explored_with(
+            rt, input, &asked, progress, jobs,
+        ),
+        counted: |asked: Asked<'_>, progress: bool| counted(
+            rt.alloc(),
+            input,
+            &asked,
+            &OnStandardError::new(rt, progress),
+        ),
     };
     printed(rt.alloc(), &host, *command, input)
 }
 
-// What `explore` prints, by as many threads as are asked for, else by one for each processor; with notes on lines of the script.
-#[tactic(auto, using(crate::proofs::Sought::fails_played))]
+// What `explore` prints, by as many threads as are asked for, else by one for each processor.
 fn explored_with<H: AllocGlobal + Eprint + Clock + Threads + Sync>(
     rt: &H,
     input: &[u8],
-    asked: &Asked<'_>,
+    asked: &Question<'_>,
     progress: bool,
     jobs: Option<u32>,
 ) -> Result<Printed, SimFault>
@@ -141,27 +123,7 @@ fn explored_with<H: AllocGlobal + Eprint + Clock + Threads + Sync>(
 {
     let watch = OnStandardError::new(rt, progress);
     let threads = threads_of(rt, jobs);
-    let printed = explored_by_threads(rt, rt.alloc(), threads, input, asked, &watch)?;
-    noted_lines(rt.alloc(), input, printed)
-}
-
-// What `explore --merge` prints, by as many threads, with the same notes.
-#[tactic(auto, using(crate::proofs::Sought::merged_played))]
-fn explored_merged<H: AllocGlobal + Eprint + Clock + Threads + Sync>(
-    rt: &H,
-    input: &[u8],
-    asked: &Question<'_>,
-    progress: bool,
-    jobs: Option<u32>,
-) -> Result<Printed, SimFault>
-    ensures ok { IfOk result (λ v. PrintsMergedSought asked.now input.now v.text.items) }
-    ensures met { IfOk result (λ v. v.met ≡ true) }
-    ensures fault { IfErr result (MergedSoughtFails asked.now input.now) }
-{
-    let watch = OnStandardError::new(rt, progress);
-    let threads = threads_of(rt, jobs);
-    let printed = merged_with(rt, rt.alloc(), threads, input, asked, &watch)?;
-    noted_lines(rt.alloc(), input, printed)
+    explored_by_threads(rt, rt.alloc(), threads, input, asked, &watch)
 }
 
 // How many threads are asked for, or how many processors there are; 1 where that can't be told.

@@ -3,14 +3,17 @@ ghost use Rattle.std.specs.Prelude.{◌≡◌, ℕ, Bool, true, Option, IfOk, If
 ghost use Rattle.mr_threads.specs.Text.{PrintsSuccess, ShownFails, ThreadsFail};
 ghost use Rattle.mr_threads_shown.specs.declared.seen.Seen.{Seen};
 ghost use Rattle.mr_threads_shown.specs.Text.{ShowsRun};
+ghost use Rattle.mr_explore.specs.declared.asked.Asked.{Asked};
+ghost use Rattle.mr_explore_merged.specs.declared.question.Question.{Question};
 ghost use Rattle.mr_sim.specs.Expected.{IsMet};
+ghost use Rattle.mr_sim.specs.Goals.{CountedFails, PrintsCounted, PrintsSought, SoughtFails};
 ghost use Rattle.mr_sim.specs.Printed.{Prints, RefusesText};
 
-use crate::goal::{explored, merged};
+use crate::exploring::{counted, explored};
 use crate::host::Host;
 use crate::tree::play_tree;
 use mr_commit_trace::committer_trace;
-use mr_explore::Asked;
+use mr_explore::{Asked, Unwatched};
 use mr_explore_merged::Question;
 use mr_pipe::Form;
 use mr_sim_commands::{IdleKeys, Printed, SimFault, committer_output, history_output, seq_output};
@@ -60,19 +63,18 @@ pub enum Command<'a> {
         hold: bool,
         seen: Seen,
     },
-    /// Makes every run of a job text and a script with at most as many faults as are asked for, and tells the ends that they come to. `progress` tells on
-    /// standard error how far it is. Runs are made by `jobs` threads, or by one for each processor.
-    Explore {
-        asked: Asked<'a>,
-        progress: bool,
-        jobs: Option<u32>,
-    },
     /// Tells each end of all runs of a job text and a script with at most as many faults as are asked for, with its least script. Runs that go on as an
-    /// earlier one does are left out, so it does not tell how many runs there are. `progress` and `jobs` are as of `Explore`.
-    ExploreMerged {
+    /// earlier one does are left out. `progress` tells on standard error how far it is. Runs are made by `jobs` threads, or by one for each processor.
+    Explore {
         asked: Question<'a>,
         progress: bool,
         jobs: Option<u32>,
+    },
+    /// Makes every run of a job text and a script with at most as many faults as are asked for, one after the other, and tells the ends that they come to,
+    /// and how many runs come to each. `progress` is as of `Explore`.
+    ExploreCounted {
+        asked: Asked<'a>,
+        progress: bool,
     },
 }
 
@@ -85,16 +87,18 @@ fn plain(alloc: Global, text: Vec<u8>) -> Printed
 }
 
 /// What a subcommand prints for the bytes of its input, and what is noted beside it. This is the one place that tells the subcommands apart.
-#[tactic(auto, using(crate::proofs::Failing::committer_fails, crate::proofs::Failing::trace_fails, crate::proofs::Failing::trace_json_fails, crate::proofs::Failing::history_fails, crate::proofs::Failing::play_fails, crate::proofs::Failing::shown_fails, crate::proofs::Failing::drawn_fails, crate::proofs::Failing::json_fails, crate::proofs::Failing::tree_fails, crate::proofs::Failing::history_json_fails, crate::proofs::Failing::seq_fails, crate::proofs::Failing::threads_fails, crate::proofs::Failing::seen_fails, crate::proofs::Failing::explore_fails, crate::proofs::Failing::merged_fails))]
-pub(crate) fn printed<T, S>(
+#[tactic(auto, using(crate::proofs::Failing::committer_fails, crate::proofs::Failing::trace_fails, crate::proofs::Failing::trace_json_fails, crate::proofs::Failing::history_fails, crate::proofs::Failing::play_fails, crate::proofs::Failing::shown_fails, crate::proofs::Failing::drawn_fails, crate::proofs::Failing::json_fails, crate::proofs::Failing::tree_fails, crate::proofs::Failing::history_json_fails, crate::proofs::Failing::seq_fails, crate::proofs::Failing::threads_fails, crate::proofs::Failing::seen_fails, crate::proofs::Failing::explore_fails, crate::proofs::Failing::counted_fails))]
+pub(crate) fn printed<'a, T, S, E, C>(
     alloc: Global,
-    host: &Host<T, S>,
-    command: Command<'_>,
+    host: &Host<T, S, E, C>,
+    command: Command<'a>,
     input: &[u8],
 ) -> Result<Printed, SimFault>
 where
     T: Fn(Option<u64>, bool) -> Result<Printed, SimFault>,
     S: Fn(Option<u64>, bool, Seen) -> Result<Printed, SimFault>,
+    E: Fn(Question<'a>, bool, Option<u32>) -> Result<Printed, SimFault>,
+    C: Fn(Asked<'a>, bool) -> Result<Printed, SimFault>,
     // The host prints of threads what `threads` prints for the input.
     requires threads { (turns : Option ℕ) (hold : Bool) → T.pre host.now.threads turns hold }
     requires printed { (turns : Option ℕ) (hold : Bool) (told : _) → T.post host.now.threads turns hold told
@@ -106,6 +110,18 @@ where
     requires shown { (turns : Option ℕ) (hold : Bool) (seen : Seen) (told : _) → S.post host.now.threads_seen turns hold seen told
         → IfOk told (λ v. ShowsRun seen input.now v.text.items) × IfErr told (ShownFails input.now) }
     requires shown_met { (turns : Option ℕ) (hold : Bool) (seen : Seen) (told : _) → S.post host.now.threads_seen turns hold seen told → IfOk told (λ v. v.met ≡ true) }
+
+    // It explores as `explore` does.
+    requires explores { (asked : Question) (progress : Bool) (jobs : Option ℕ) → E.pre host.now.explored asked progress jobs }
+    requires explored { (asked : Question) (progress : Bool) (jobs : Option ℕ) (told : _) → E.post host.now.explored asked progress jobs told
+        → IfOk told (λ v. PrintsSought asked input.now v.text.items) × IfErr told (SoughtFails asked input.now) }
+    requires explored_met { (asked : Question) (progress : Bool) (jobs : Option ℕ) (told : _) → E.post host.now.explored asked progress jobs told → IfOk told (λ v. v.met ≡ true) }
+
+    // It counts runs as `explore --count` does.
+    requires counts { (asked : Asked) (progress : Bool) → C.pre host.now.counted asked progress }
+    requires counted { (asked : Asked) (progress : Bool) (told : _) → C.post host.now.counted asked progress told
+        → IfOk told (λ v. PrintsCounted asked input.now v.text.items) × IfErr told (CountedFails asked input.now) }
+    requires counted_met { (asked : Asked) (progress : Bool) (told : _) → C.post host.now.counted asked progress told → IfOk told (λ v. v.met ≡ true) }
 
     // Ok: the text is what is printed for the input.
     ensures ok { IfOk result (λ v. Prints command.entry input.now v.text.items) }
@@ -130,8 +146,12 @@ where
         Command::Seq => seq_output(alloc, input),
         Command::Threads { turns, hold } => (host.threads)(turns, hold),
         Command::ThreadsSeen { turns, hold, seen } => (host.threads_seen)(turns, hold, seen),
-        Command::Explore { asked, .. } => explored(alloc, input, &asked),
-        Command::ExploreMerged { asked, .. } => merged(alloc, input, &asked),
+        Command::Explore {
+            asked,
+            progress,
+            jobs,
+        } => (host.explored)(asked, progress, jobs),
+        Command::ExploreCounted { asked, progress } => (host.counted)(asked, progress),
     }
 }
 
@@ -139,7 +159,7 @@ where
 ///
 /// `BadCommand`, `BadRecord`, `Job`, `Refused` and `Full` come only where the input has that fault; `NoMemory` may come at
 /// any input. Of `explore` a goal that no end can meet is told before a fault of the script or of a run. Where a subcommand runs threads, there is no handle to make one: a job text that can be read is answered by `Thread`. The faults of streams, `Read`, `Write` and `TooLong`, never come: what is too long is for whoever reads.
-pub fn answer(alloc: Global, command: Command<'_>, input: &[u8]) -> Result<Vec<u8>, SimFault>
+pub fn answer<'a>(alloc: Global, command: Command<'a>, input: &[u8]) -> Result<Vec<u8>, SimFault>
     // Ok: the text is what is printed for the input.
     ensures ok { IfOk result (λ v. Prints command.entry input.now v.items) }
 
@@ -149,6 +169,10 @@ pub fn answer(alloc: Global, command: Command<'_>, input: &[u8]) -> Result<Vec<u
     let host = Host {
         threads: |_turns: Option<u64>, _hold: bool| unthreaded(alloc, input),
         threads_seen: |_turns: Option<u64>, _hold: bool, _seen: Seen| unthreaded(alloc, input),
+        explored: |asked: Question<'_>, _progress: bool, _jobs: Option<u32>| explored(
+            alloc, input, &asked,
+        ),
+        counted: |asked: Asked<'_>, _progress: bool| counted(alloc, input, &asked, &Unwatched),
     };
     Ok(printed(alloc, &host, command, input)?.text)
 }

@@ -18,6 +18,9 @@ pub const COMMIT_STARTED: &str = "commit-started";
 /// The mark COMMIT_SUCCESS is there.
 pub const COMMIT_SUCCESS: &str = "commit-success";
 
+/// `explore` makes every run, and counts them.
+pub const COUNT: &str = "count";
+
 /// How many events a run of `explore` makes by itself, which none ends for making no progress.
 pub const DEEP: &str = "deep";
 
@@ -54,7 +57,7 @@ pub const JOBS: &str = "jobs";
 /// Lines of JSON are asked for.
 pub const JSON: &str = "json";
 
-/// `explore` leaves out runs that go on alike.
+/// `explore` leaves out runs that go on alike, as it does without this word.
 pub const MERGE: &str = "merge";
 
 /// How many runs `explore` makes at most.

@@ -12,7 +12,8 @@
 //!   line, or no memory (`HistoryFails`);
 //! - **`seq_output`**: the sequential execution of the job that the text submits. For each reduce, by rising name, it
 //!   has `== `, the part file's name and length, and its bytes (`PrintsSeq`). Else it tells the first bad key of the
-//!   job text, a line of a split that the job refuses, or no memory (`SeqFails`).
+//!   job text, a line of a split that the job refuses, or no memory (`SeqFails`). `seq_files` does so for a job that
+//!   was read (`AreFilesOfJob`).
 //!
 //! **Job texts** (`read_job_text`): it answers exactly what the definition `submission_of` says of the bytes. That is
 //! the job that is submitted, or the first bad key, or that there is no JSON object. The keys are in the order `id`,
@@ -48,4 +49,4 @@ pub use history::{history_output, print_record};
 pub use job::{IdleKeys, JobKind, Submission, read_job_text};
 pub use laws::{comments_are_no_commands, one_first_bad, one_reading, one_seq_text, read_or_bad};
 pub use printed::Printed;
-pub use seq::{print_file, seq_output};
+pub use seq::{print_file, seq_files, seq_output};

@@ -1,8 +1,9 @@
 //! The subcommand `seq`.
 ghost use Rattle.std.specs.Prelude.{◌≡◌, ◌≤◌, true, length, map, IfOk, IfErr};
+ghost use Rattle.std.specs.Option.{option_map};
 ghost use Rattle.mr_user.specs.Faults.{RefusedIf};
 ghost use Rattle.mr_sim_commands.specs.Faults.{SeqFails};
-ghost use Rattle.mr_sim_commands.specs.seq.Text.{ArePartFiles, PrintsSeq, RefusesLine};
+ghost use Rattle.mr_sim_commands.specs.seq.Text.{AreFilesOfJob, ArePartFiles, PrintsSeq, RefusesLine};
 ghost use Rattle.mr_sim_commands.specs.job.Submission.{IsWithinLimits};
 
 mod part_files;
@@ -14,7 +15,7 @@ use crate::seq::part_files::part_files_text;
 use mr_jobs::{LineIndex, MaxByKey, WordCount};
 use mr_user::{UserFault, sequential};
 pub use part_files::print_file;
-use std::alloc::Global;
+use std::alloc::{AllocError, Global};
 
 /// The part files of a job's sequential execution.
 #[tactic(auto, unfolding(crate::specs::seq::Text::output_of))]
@@ -32,6 +33,22 @@ fn part_files_of(alloc: Global, submission: &Submission) -> Result<Vec<Vec<u8>>,
     }
 }
 
+/// What `seq` prints of a job: its part files; nothing where the job refuses a line of a split. It fails by an allocation failure.
+pub fn seq_files(alloc: Global, submission: &Submission) -> Result<Option<Vec<u8>>, AllocError>
+    requires { IsWithinLimits submission.now }
+    ensures { IfOk result (λ files. AreFilesOfJob submission.now (option_map (λ v. v.items) files)) }
+{
+    match part_files_of(alloc, submission) {
+        Ok(files) => {
+            let text = part_files_text(alloc, &files)?;
+            Ok(Some(text))
+        }
+        Err(UserFault::Refused) => Ok(None),
+        Err(UserFault::NoMemory) => Err(AllocError),
+        Err(UserFault::BadWire) => unreachable!(),
+    }
+}
+
 /// What `seq` prints for a job text.
 ///
 /// `Job` names the first bad key of the job text; `Refused`: the job refuses a line of a split. `NoMemory` may come at any text; no
@@ -42,13 +59,8 @@ pub fn seq_output(alloc: Global, input: &[u8]) -> Result<Printed, SimFault>
     ensures fault { IfErr result (SeqFails input.now) }
 {
     let submission = read_job_text(alloc, input)?;
-    match part_files_of(alloc, &submission) {
-        Ok(files) => {
-            let text = part_files_text(alloc, &files)?;
-            Ok(Printed::plain(alloc, text, submission.idle_keys))
-        }
-        Err(UserFault::Refused) => Err(SimFault::Refused),
-        Err(UserFault::NoMemory) => Err(SimFault::NoMemory),
-        Err(UserFault::BadWire) => unreachable!(),
+    match seq_files(alloc, &submission)? {
+        Some(text) => Ok(Printed::plain(alloc, text, submission.idle_keys)),
+        None => Err(SimFault::Refused),
     }
 }

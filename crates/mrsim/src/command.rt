@@ -6,7 +6,7 @@ use clap::error::ErrorKind;
 use clap::{ArgMatches, Error};
 use mr_sim::{Asked, Ending, Expectation, Form, Part, Question, Seen, Shown, SimFault};
 use mr_sim_arguments::{
-    DEEP, DIAGRAM, FAULTS, FILE, FIND, FOLD, FROM, HISTORY_NAME, HOLD, JOBS, JSON, MERGE, MOST,
+    COUNT, DEEP, DIAGRAM, FAULTS, FILE, FIND, FOLD, FROM, HISTORY_NAME, HOLD, JOBS, JSON, MOST,
     PROGRESS, ROWS, SCRIPT, SECONDS, TRACE, TREE, TURNS,
 };
 
@@ -108,20 +108,31 @@ fn play_of<'a>(words: &ArgMatches<'_>) -> mr_sim::Command<'a> {
 
 // What `explore` is asked for, and the end that is sought.
 fn explore_of<'a>(words: &ArgMatches<'_>, goal: Option<&'a [Expectation]>) -> mr_sim::Command<'a> {
-    let (progress, jobs) = (words.get_flag(PROGRESS), words.get_one::<u32>(JOBS));
-    if words.get_flag(MERGE) {
-        let asked = Question {
+    if counts(words) {
+        return counted_of(words, goal);
+    }
+    mr_sim::Command::Explore {
+        asked: Question {
             faults: faults_of(words),
             goal,
             form: form_of(words),
-        };
-        return mr_sim::Command::ExploreMerged {
-            asked,
-            progress,
-            jobs,
-        };
+        },
+        progress: words.get_flag(PROGRESS),
+        jobs: words.get_one::<u32>(JOBS),
     }
-    mr_sim::Command::Explore {
+}
+
+// Whether runs are counted: it is asked for, or what only counted runs can have.
+fn counts(words: &ArgMatches<'_>) -> bool {
+    words.get_flag(COUNT)
+        || words.get_one::<u64>(DEEP).is_some()
+        || words.get_one::<u64>(MOST).is_some()
+        || words.get_one::<u64>(SECONDS).is_some()
+}
+
+// What `explore` is asked for where it counts runs.
+fn counted_of<'a>(words: &ArgMatches<'_>, goal: Option<&'a [Expectation]>) -> mr_sim::Command<'a> {
+    mr_sim::Command::ExploreCounted {
         asked: Asked {
             faults: faults_of(words),
             most: words.get_one::<u64>(MOST).unwrap_or(u64::MAX),
@@ -130,8 +141,7 @@ fn explore_of<'a>(words: &ArgMatches<'_>, goal: Option<&'a [Expectation]>) -> mr
             goal,
             form: form_of(words),
         },
-        progress,
-        jobs,
+        progress: words.get_flag(PROGRESS),
     }
 }
 

@@ -144,6 +144,9 @@ fn lines_of(
 
 const ALL: &[u8] = b"# 2 ends of all runs with at most 2 faults
 # with the marker the files are those of seq: no
+# faults events marker outcome files winners
+# 0 2 yes succeeded none none
+# 1 1 no failed none none
 
 # the least script has 0 faults and 2 events
 # r 0 none
@@ -186,6 +189,8 @@ fn least_of_four_runs(rt: HostRuntime) {
 
 const SOME: &[u8] = b"# 1 end, not of all runs with at most 2 faults: some would pass a limit
 # with the marker the files are those of seq: yes
+# faults events marker outcome files winners
+# 2 0 no failed none none
 
 # the least script has 2 faults and 0 events
 # r 0 none

@@ -4,6 +4,7 @@ use mr_explore::{Exploration, Explored, Table, Unwatched, Winners, note};
 use mr_explore_compared::{Compared, is_like, mark};
 use mr_explore_places::{Bounds, MarkedRun, Search};
 use mr_explore_search::{Ended, Run};
+use mr_play::played;
 use std::alloc::Global;
 use std::process::Abort;
 
@@ -24,7 +25,8 @@ const MAPS_TURNED: &[u8] = b"compute 1.1\ncompute 1.0\nstep 1.0\n";
 fn run_of(rt: &impl Abort, alloc: Global, before: &[u8], lines: &[u8]) -> Explored {
     let mut input = Vec::from_slice(alloc, before).expect(rt, "no memory");
     input.extend_from_slice(lines).expect(rt, "no memory");
-    Explored::new(alloc, &input).expect(rt, "no run")
+    let player = played(alloc, &input).expect(rt, "no player");
+    Explored::new(player).expect(rt, "no run")
 }
 
 // Whether the run of the first lines is found to be like that of the others.
@@ -107,7 +109,8 @@ fn marks_are_those_of_whole_runs(rt: HostRuntime) {
 
 // How many runs come of it by a fault at most, and how many ends.
 fn all_of(rt: &impl Abort, alloc: Global) -> (u64, usize) {
-    let mut all = Exploration::new(alloc, SMALL, 1, None).expect(rt, "no exploration");
+    let run = run_of(rt, alloc, SMALL, b"");
+    let mut all = Exploration::new(alloc, run, 1, None).expect(rt, "no exploration");
     all.make(alloc, 10_000, None, None, &Unwatched)
         .expect(rt, "no runs");
     (all.table().runs(), all.table().rows().len())

@@ -1,8 +1,10 @@
-//! What `explore --merge` prints, by one thread and by several: the ends and the scripts that `explore` finds, in the form of docs/MRSIM.md.
+//! What `explore` prints, by one thread and by several: the ends and the scripts that `explore` finds, in the form of docs/MRSIM.md.
 
-use mr_explore::{Form, Unwatched};
+use mr_explore::{Form, Start, Unwatched};
 use mr_explore_merged::{Question, merged_by_threads, merged_output};
+use mr_play::Input;
 use mr_script::Expectation;
+use std::alloc::Global;
 use std::process::Abort;
 use std::thread::Threads;
 
@@ -13,6 +15,9 @@ const CRASHED: &[u8] =
 // Two ends come of it by at most one fault. One is that no other master starts.
 const NO_MASTER: &[u8] = b"# 2 ends of all runs with at most 1 fault\n\
 # with the marker the files are those of seq: yes\n\
+# faults events marker outcome files winners\n\
+# 0 2 no none none none\n\
+# 1 39 yes succeeded seq attempt_200707121733_0003_r_000000_1000\n\
 \n\
 # the least script has 0 faults and 2 events\n\
 # r 0 none\n\
@@ -70,6 +75,12 @@ duty 2\n\
 duty 2\n\
 duty 2\n";
 
+// What an exploration of it starts from.
+fn started(rt: &impl Abort, alloc: Global) -> Start {
+    let input = Input::read(alloc, CRASHED).expect(rt, "no job");
+    Start::new(alloc, input).expect(rt, "no run")
+}
+
 // This is printed of it by one thread, and by each of these numbers of threads.
 fn prints<R: AllocGlobal + Abort + Threads + Sync>(
     rt: &R,
@@ -80,11 +91,12 @@ fn prints<R: AllocGlobal + Abort + Threads + Sync>(
     let alloc = rt.alloc();
     let mut text = Vec::from_slice(alloc, head).expect(rt, "no memory");
     text.extend_from_slice(rest).expect(rt, "no memory");
-    let alone = merged_output(alloc, CRASHED, asked, &Unwatched).expect(rt, "a fault");
+    let alone = merged_output(alloc, started(rt, alloc), asked, &Unwatched).expect(rt, "a fault");
     assert!(rt; alone.met && alone.text.as_slice() == text.as_slice());
     drop(alone);
     for threads in [0, 1, 3] {
-        let told = merged_by_threads(rt, alloc, threads, CRASHED, asked, &Unwatched).expect(
+        let start = started(rt, alloc);
+        let told = merged_by_threads(rt, alloc, threads, start, asked, &Unwatched).expect(
             rt, "a fault",
         );
         assert!(rt; told.met && told.text.as_slice() == text.as_slice());

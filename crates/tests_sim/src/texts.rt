@@ -49,13 +49,12 @@ fn answers_without_a_handle(rt: HostRuntime) {
         goal: Some(goal.as_slice()),
         form: Form::Text,
     };
-    let command = Command::Explore {
+    let command = Command::ExploreCounted {
         asked,
         progress: false,
-        jobs: None,
     };
     answers(&rt, command, ONE, b"# 1 run with at most 0 faults\nnone\n");
-    let command = Command::ExploreMerged {
+    let command = Command::Explore {
         asked: Question {
             faults: 0,
             goal: Some(goal.as_slice()),

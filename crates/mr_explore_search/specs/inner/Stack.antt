@@ -133,7 +133,7 @@ module _ {S F : Type 0} (steps : Steps S F) where
   Further l old (Ok o) new = (Went l old new × (o ≡ None)) ⊎ ((t : S) × IsAtEnd l t × (o ≡ run_if l.chances.spare l.chances.total t) × (new ≡ old))
   Further l old (Err fault.Full) new = (n : ℕ) × (l.left ≡ suc n) × (steps.onward l.run ≡ Full) × (new ≡ old)
   Further l old (Err fault.NoMemory) new = Unit {0}
-  Further l old (Err fault.Mismatch) new = Unit {0}
+  Further l old (Err fault.Mismatch) new = ⊥
 
   -- what comes of a run that departs no more
   abbrev pub alone : (total left : ℕ) → S → List (Found S)
@@ -145,7 +145,7 @@ module _ {S F : Type 0} (steps : Steps S F) where
   Finishes total left s (Ok e) = alone total left s ≡ Run e.faults e.run ∷ []
   Finishes total left s (Err fault.Full) = alone total left s ≡ PassesLimit ∷ []
   Finishes total left s (Err fault.NoMemory) = Unit {0}
-  Finishes total left s (Err fault.Mismatch) = Unit {0}
+  Finishes total left s (Err fault.Mismatch) = ⊥
 
   -- a run was made, or there is less to be done before the next one
   abbrev pub Turned : ℕ → List (Level S F) → Result (Option (Ended S)) WalkFault → List (Level S F) → Type 0
@@ -153,7 +153,7 @@ module _ {S F : Type 0} (steps : Steps S F) where
   Turned most old (Ok (Some e)) new = stack_left most old ≡ Run e.faults e.run ∷ stack_left most new
   Turned most old (Err fault.Full) new = stack_left most old ≡ PassesLimit ∷ stack_left most new
   Turned most old (Err fault.NoMemory) new = Unit {0}
-  Turned most old (Err fault.Mismatch) new = Unit {0}
+  Turned most old (Err fault.Mismatch) new = ⊥
 
   -- a departure was tried, and there is less to be done; or all was tried, and the level is handed back
   abbrev pub Departed : ℕ → Level S F → List (Level S F) → Option (Level S F) → List (Level S F) → Type 0
@@ -165,7 +165,7 @@ module _ {S F : Type 0} (steps : Steps S F) where
   NextOf most old (Ok (Some e)) new = stack_left most old ≡ Run e.faults e.run ∷ stack_left most new
   NextOf most old (Err fault.Full) new = stack_left most old ≡ PassesLimit ∷ stack_left most new
   NextOf most old (Err fault.NoMemory) new = Unit {0}
-  NextOf most old (Err fault.Mismatch) new = Unit {0}
+  NextOf most old (Err fault.Mismatch) new = ⊥
 
   -- what is left where this comes next, and these levels are behind it: nothing, if nothing comes next
   abbrev pub with_next : ℕ → Option (Next S) → List (Level S F) → List (Found S)

@@ -1,6 +1,6 @@
 -- What `seq` prints for a job text: the part files of the job's sequential execution (Dean and Ghemawat 2004, section
 -- 3.3), named as by Hadoop's OutputFormat.
-use Rattle.std.specs.Prelude.{◌≡◌, ◌<◌, ℕ, List, length, slice_get, Option, None, Ok}
+use Rattle.std.specs.Prelude.{◌≡◌, ◌<◌, ℕ, List, length, slice_get, Option, Some, None, Ok}
 use Rattle.std.specs.Cmp.Lexicographic.{slice_cmp}
 use Rattle.std.specs.Ordering.{nat_cmp}
 use Rattle.mr_user.specs.Computation.{computation}
@@ -29,6 +29,17 @@ pub record ArePartFiles (job : Submission) (files : List (List ℕ)) : Type 0 wh
 -- the job refuses a line, so it has no part file
 abbrev pub RefusesLine : Submission → Type 0
 RefusesLine job = (r : ℕ) → r < job.reduces → output_of job.job job.reduces r job.splits ≡ None
+
+-- the part files of a job, as they are printed
+pub record PrintsFiles (job : Submission) (text : List ℕ) : Type 0 where
+  pub files : List (List ℕ)
+  pub part_files : ArePartFiles job files
+  pub is : text ≡ part_files_text 0 files
+
+-- the same, or nothing where the job refuses a line of a split
+abbrev pub AreFilesOfJob : Submission → Option (List ℕ) → Type 0
+AreFilesOfJob job (Some text) = PrintsFiles job text
+AreFilesOfJob job None = RefusesLine job
 
 -- a job text, and the part files of its job as they are printed
 pub record PrintsSeq (input text : List ℕ) : Type 0 where

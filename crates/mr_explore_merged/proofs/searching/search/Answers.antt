@@ -1,5 +1,5 @@
-use Rattle.mr_explore_merged.proofs.Stopping.{fails_of}
+use Rattle.mr_explore_merged.proofs.Knowing.{all_found}
 use Rattle.mr_explore_merged.proofs.searching.search.Goals as goal
 
-pub returns-in-Ok-clause-fault : goal.returns-in-Ok-clause-fault
-returns-in-Ok-clause-fault g c = fails_of c.args.input.now c.args.faults c.args.most c.in-Ok.run' c.search_from.result c.requires c.in-Ok.ensures.run c.search_from.ensures.fault
+pub returns-in-Ok-clause-finds : goal.returns-in-Ok-clause-finds
+returns-in-Ok-clause-finds g c = all_found c.args.faults c.bounds_for.result c.args.run c.in-Ok.table c.bounds_for.ensures.faults c.bounds_for.ensures.steps c.in-Ok.ensures.all

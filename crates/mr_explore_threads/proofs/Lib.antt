@@ -1,3 +1,0 @@
-mod Advancing
-mod Beginning
-mod Failing

@@ -1,4 +1,0 @@
--- Words for private contracts and for proofs. No public clause cites them.
-pub mod Begun
-pub mod Counting
-pub mod Counts
