@@ -6,7 +6,7 @@
 //!   fixed script and a fixed end.
 //! - **`lines_stay_within`**: no `<` stands among the lines of a page, so none of them ends the element that they stand in, whatever their text is.
 //!
-//! The fixed parts are made by tools/page_parts of tools/page_source. What the script shows is in no clause.
+//! The fixed parts are made by tools/page_parts of tools/page_source. What the script shows is in no clause, and tested by tools/page_tests.
 #![tactic(auto)]
 
 mod end_part;

@@ -7,7 +7,7 @@ use Rattle.mr_sim_commands.specs.Faults.{CommitterFails, HistoryFails, SeqFails}
 use Rattle.mr_trace_svg.specs.declared.part.Part.{Part}
 use Rattle.mr_trace.specs.mr_play.specs.declared.shown.Shown.{Shown}
 use Rattle.mr_trace.specs.mr_play.specs.Text.{PlayFails}
-use Rattle.mr_sim.specs.declared.subcommand.Command.TheVariants.{Committer, CommitterTrace, CommitterJson, Play, PlayShown, PlayDrawn, PlayJson, PlayTree, History, HistoryJson, Seq, Threads, ThreadsSeen, Explore, ExploreMerged}
+use Rattle.mr_sim.specs.declared.subcommand.Command.TheVariants.{Committer, CommitterTrace, CommitterJson, Play, PlayShown, PlayDrawn, PlayJson, PlayPage, PlayTree, History, HistoryJson, Seq, Threads, ThreadsSeen, Explore, ExploreMerged}
 use Rattle.mr_explore.specs.declared.asked.Asked.{Asked}
 use Rattle.mr_explore_merged.specs.declared.question.Question.{Question}
 use Rattle.mr_threads_shown.specs.declared.seen.Seen.{Seen}
@@ -196,6 +196,22 @@ json_fails input (Err JobFailed) h = h
 json_fails input (Err TurnsSpent) h = h
 json_fails input (Err JournalMismatch) h = h
 json_fails input (Err Thread) h = h
+
+pub page_fails : {A : Type 0} (input : List ℕ) (r : Result A SimFault) → IfErr r (PlayFails within input) → IfErr r (RefusesText PlayPage input)
+page_fails input (Ok x) h = h
+page_fails input (Err NoMemory) h = h
+page_fails input (Err Read) h = h
+page_fails input (Err Write) h = h
+page_fails input (Err TooLong) h = h
+page_fails input (Err (BadCommand n)) h = h
+page_fails input (Err (BadRecord n)) h = h
+page_fails input (Err (Job e)) h = h
+page_fails input (Err Refused) h = h
+page_fails input (Err Full) h = h
+page_fails input (Err JobFailed) h = h
+page_fails input (Err TurnsSpent) h = h
+page_fails input (Err JournalMismatch) h = h
+page_fails input (Err Thread) h = h
 
 pub tree_fails : {A : Type 0} (input : List ℕ) (r : Result A SimFault) → IfErr r (PlayFails within input) → IfErr r (RefusesText PlayTree input)
 tree_fails input (Ok x) h = h

@@ -1,7 +1,7 @@
 -- No input is both printed and refused.
 use Rattle.std.proofs.Common.{◌≡◌, Some, None, Ok, Err, sym, ◌∙◌, arith}
 use Rattle.mr_sim_commands.specs.declared.fault.SimFault.TheVariants.{NoMemory, Read, Write, TooLong, BadCommand, BadRecord, Job, Refused, Full, JobFailed, TurnsSpent, JournalMismatch, Thread}
-use Rattle.mr_sim.specs.declared.subcommand.Command.TheVariants.{Committer, CommitterTrace, CommitterJson, Play, PlayShown, PlayDrawn, PlayJson, PlayTree, History, HistoryJson, Seq, Threads, ThreadsSeen, Explore, ExploreMerged}
+use Rattle.mr_sim.specs.declared.subcommand.Command.TheVariants.{Committer, CommitterTrace, CommitterJson, Play, PlayShown, PlayDrawn, PlayJson, PlayPage, PlayTree, History, HistoryJson, Seq, Threads, ThreadsSeen, Explore, ExploreMerged}
 use Rattle.mr_sim.specs.Laws.{PrintedOrRefused}
 use Rattle.mr_trace.specs.mr_world.specs.Limits as limits
 use Rattle.mr_sim_commands.proofs.Readings.{read_or_bad_law}
@@ -25,6 +25,7 @@ printed_or_refused_law Play input text (BadCommand n) short p h = one_play_text_
 printed_or_refused_law (PlayShown shown) input text (BadCommand n) short p h = one_play_text_law.not_bad_line limits.within input p.printed n p.prints h.1
 printed_or_refused_law (PlayDrawn part) input text (BadCommand n) short p h = one_play_text_law.not_bad_line limits.within input p.0 n p.1 h.1
 printed_or_refused_law PlayJson input text (BadCommand n) short p h = one_play_text_law.not_bad_line limits.within input p.printed n p.prints h.1
+printed_or_refused_law PlayPage input text (BadCommand n) short p h = one_play_text_law.not_bad_line limits.within input p.tells.printed n p.tells.prints h.1
 printed_or_refused_law PlayTree input text (BadCommand n) short p h = one_play_text_law.not_bad_line limits.within input p.printed n p.prints h.1
 printed_or_refused_law History input text (BadCommand n) short p h = h.1
 printed_or_refused_law HistoryJson input text (BadCommand n) short p h = h.1
@@ -40,6 +41,7 @@ printed_or_refused_law Play input text (BadRecord n) short p h = h.1
 printed_or_refused_law (PlayShown shown) input text (BadRecord n) short p h = h.1
 printed_or_refused_law (PlayDrawn part) input text (BadRecord n) short p h = h.1
 printed_or_refused_law PlayJson input text (BadRecord n) short p h = h.1
+printed_or_refused_law PlayPage input text (BadRecord n) short p h = h.1
 printed_or_refused_law PlayTree input text (BadRecord n) short p h = h.1
 printed_or_refused_law History input text (BadRecord n) short p h = let y : Some n ≡ None = sym h.1 ∙ p.good in absurd (cc)
 printed_or_refused_law HistoryJson input text (BadRecord n) short p h = let y : Some n ≡ None = sym h.1 ∙ p.good in absurd (cc)
@@ -55,6 +57,7 @@ printed_or_refused_law Play input text (Job e) short p h = one_play_text_law.not
 printed_or_refused_law (PlayShown shown) input text (Job e) short p h = one_play_text_law.not_bad_job limits.within input p.printed e p.prints h.1
 printed_or_refused_law (PlayDrawn part) input text (Job e) short p h = one_play_text_law.not_bad_job limits.within input p.0 e p.1 h.1
 printed_or_refused_law PlayJson input text (Job e) short p h = one_play_text_law.not_bad_job limits.within input p.printed e p.prints h.1
+printed_or_refused_law PlayPage input text (Job e) short p h = one_play_text_law.not_bad_job limits.within input p.tells.printed e p.tells.prints h.1
 printed_or_refused_law PlayTree input text (Job e) short p h = one_play_text_law.not_bad_job limits.within input p.printed e p.prints h.1
 printed_or_refused_law History input text (Job e) short p h = h.1
 printed_or_refused_law HistoryJson input text (Job e) short p h = h.1
@@ -70,6 +73,7 @@ printed_or_refused_law Play input text Refused short p h = h.1
 printed_or_refused_law (PlayShown shown) input text Refused short p h = h.1
 printed_or_refused_law (PlayDrawn part) input text Refused short p h = h.1
 printed_or_refused_law PlayJson input text Refused short p h = h.1
+printed_or_refused_law PlayPage input text Refused short p h = h.1
 printed_or_refused_law PlayTree input text Refused short p h = h.1
 printed_or_refused_law History input text Refused short p h = h.1
 printed_or_refused_law HistoryJson input text Refused short p h = h.1
@@ -85,6 +89,7 @@ printed_or_refused_law Play input text Full short p h = one_play_text_law.not_fu
 printed_or_refused_law (PlayShown shown) input text Full short p h = one_play_text_law.not_full limits.within input p.printed p.prints h.1
 printed_or_refused_law (PlayDrawn part) input text Full short p h = one_play_text_law.not_full limits.within input p.0 p.1 h.1
 printed_or_refused_law PlayJson input text Full short p h = one_play_text_law.not_full limits.within input p.printed p.prints h.1
+printed_or_refused_law PlayPage input text Full short p h = one_play_text_law.not_full limits.within input p.tells.printed p.tells.prints h.1
 printed_or_refused_law PlayTree input text Full short p h = one_play_text_law.not_full limits.within input p.printed p.prints h.1
 printed_or_refused_law History input text Full short p h = h.1
 printed_or_refused_law HistoryJson input text Full short p h = h.1
@@ -100,6 +105,7 @@ printed_or_refused_law Play input text JobFailed short p h = h.1
 printed_or_refused_law (PlayShown shown) input text JobFailed short p h = h.1
 printed_or_refused_law (PlayDrawn part) input text JobFailed short p h = h.1
 printed_or_refused_law PlayJson input text JobFailed short p h = h.1
+printed_or_refused_law PlayPage input text JobFailed short p h = h.1
 printed_or_refused_law PlayTree input text JobFailed short p h = h.1
 printed_or_refused_law History input text JobFailed short p h = h.1
 printed_or_refused_law HistoryJson input text JobFailed short p h = h.1
@@ -115,6 +121,7 @@ printed_or_refused_law Play input text TurnsSpent short p h = h.1
 printed_or_refused_law (PlayShown shown) input text TurnsSpent short p h = h.1
 printed_or_refused_law (PlayDrawn part) input text TurnsSpent short p h = h.1
 printed_or_refused_law PlayJson input text TurnsSpent short p h = h.1
+printed_or_refused_law PlayPage input text TurnsSpent short p h = h.1
 printed_or_refused_law PlayTree input text TurnsSpent short p h = h.1
 printed_or_refused_law History input text TurnsSpent short p h = h.1
 printed_or_refused_law HistoryJson input text TurnsSpent short p h = h.1
@@ -130,6 +137,7 @@ printed_or_refused_law Play input text JournalMismatch short p h = h.1
 printed_or_refused_law (PlayShown shown) input text JournalMismatch short p h = h.1
 printed_or_refused_law (PlayDrawn part) input text JournalMismatch short p h = h.1
 printed_or_refused_law PlayJson input text JournalMismatch short p h = h.1
+printed_or_refused_law PlayPage input text JournalMismatch short p h = h.1
 printed_or_refused_law PlayTree input text JournalMismatch short p h = h.1
 printed_or_refused_law History input text JournalMismatch short p h = h.1
 printed_or_refused_law HistoryJson input text JournalMismatch short p h = h.1
@@ -145,6 +153,7 @@ printed_or_refused_law Play input text Thread short p h = h.1
 printed_or_refused_law (PlayShown shown) input text Thread short p h = h.1
 printed_or_refused_law (PlayDrawn part) input text Thread short p h = h.1
 printed_or_refused_law PlayJson input text Thread short p h = h.1
+printed_or_refused_law PlayPage input text Thread short p h = h.1
 printed_or_refused_law PlayTree input text Thread short p h = h.1
 printed_or_refused_law History input text Thread short p h = h.1
 printed_or_refused_law HistoryJson input text Thread short p h = h.1

@@ -4,7 +4,7 @@ use Rattle.mr_trace.specs.mr_play.specs.Text.{IsAsExpected}
 use Rattle.mr_sim.specs.declared.ending.Ending.{Ending}
 use Rattle.mr_sim.specs.declared.ending.Ending.TheVariants.{Done, Unmet}
 use Rattle.mr_sim.specs.declared.subcommand.Command.{Command}
-use Rattle.mr_sim.specs.declared.subcommand.Command.TheVariants.{Committer, CommitterTrace, CommitterJson, Play, PlayShown, PlayDrawn, PlayJson, PlayTree, History, HistoryJson, Seq, Threads, ThreadsSeen, Explore, ExploreMerged}
+use Rattle.mr_sim.specs.declared.subcommand.Command.TheVariants.{Committer, CommitterTrace, CommitterJson, Play, PlayShown, PlayDrawn, PlayJson, PlayPage, PlayTree, History, HistoryJson, Seq, Threads, ThreadsSeen, Explore, ExploreMerged}
 use Rattle.mr_trace.specs.mr_world.specs.Limits.{within}
 
 -- Whether all is as the input expects. Only scripts of `play` expect anything.
@@ -16,6 +16,7 @@ IsMet Play input met = IsAsExpected within input met
 IsMet (PlayShown shown) input met = IsAsExpected within input met
 IsMet (PlayDrawn part) input met = IsAsExpected within input met
 IsMet PlayJson input met = IsAsExpected within input met
+IsMet PlayPage input met = IsAsExpected within input met
 IsMet PlayTree input met = IsAsExpected within input met
 IsMet History input met = met ≡ true
 IsMet HistoryJson input met = met ≡ true

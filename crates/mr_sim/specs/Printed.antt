@@ -8,7 +8,7 @@ use Rattle.mr_sim_commands.specs.declared.fault.JobTextFault.{JobTextFault}
 use Rattle.mr_sim_commands.specs.declared.fault.SimFault.{SimFault}
 use Rattle.mr_sim_commands.specs.declared.fault.SimFault.TheVariants.{NoMemory, Read, Write, TooLong, BadCommand, BadRecord, Job, Refused, Full, JobFailed, TurnsSpent, JournalMismatch, Thread}
 use Rattle.mr_sim.specs.declared.subcommand.Command.{Command}
-use Rattle.mr_sim.specs.declared.subcommand.Command.TheVariants.{Committer, CommitterTrace, CommitterJson, Play, PlayShown, PlayDrawn, PlayJson, PlayTree, History, HistoryJson, Seq, Threads, ThreadsSeen, Explore, ExploreMerged}
+use Rattle.mr_sim.specs.declared.subcommand.Command.TheVariants.{Committer, CommitterTrace, CommitterJson, Play, PlayShown, PlayDrawn, PlayJson, PlayPage, PlayTree, History, HistoryJson, Seq, Threads, ThreadsSeen, Explore, ExploreMerged}
 use Rattle.mr_sim_commands.specs.committer.Script.{IsFirstBad}
 use Rattle.mr_sim_commands.specs.committer.Text.{PrintsCommitter}
 use Rattle.mr_sim_commands.specs.history.Text.{PrintsHistory}
@@ -17,6 +17,7 @@ use Rattle.mr_explore.specs.Explored.{IsFullExplored, goal_of}
 use Rattle.mr_explore_merged.specs.Merged.{IsFullMerged, sought}
 use Rattle.mr_trace_json.specs.Plays.{TellsPlay}
 use Rattle.mr_trace_json.specs.Segments.{TellsHistory}
+use Rattle.mr_trace_page.specs.Pages.{PagesPlay}
 use Rattle.mr_trace.specs.mr_play.specs.Shown.{Draws}
 use Rattle.mr_trace.specs.Shown.{Shows}
 use Rattle.mr_trace.specs.mr_play.specs.Text.{PrintsPlay, IsBadPlayJob, IsBadPlayLine, IsFullPlay}
@@ -40,6 +41,7 @@ Prints Play input text = PrintsPlay within input text
 Prints (PlayShown shown) input text = Shows within shown input text
 Prints (PlayDrawn part) input text = Draws within input
 Prints PlayJson input text = TellsPlay within input text
+Prints PlayPage input text = PagesPlay within input text
 Prints PlayTree input text = ListsPlay within input text
 Prints History input text = PrintsHistory input text
 Prints HistoryJson input text = TellsHistory input text
@@ -60,6 +62,7 @@ IsBadLine Play input n = IsBadPlayLine input n
 IsBadLine (PlayShown shown) input n = IsBadPlayLine input n
 IsBadLine (PlayDrawn part) input n = IsBadPlayLine input n
 IsBadLine PlayJson input n = IsBadPlayLine input n
+IsBadLine PlayPage input n = IsBadPlayLine input n
 IsBadLine PlayTree input n = IsBadPlayLine input n
 IsBadLine History input n = ⊥
 IsBadLine HistoryJson input n = ⊥
@@ -78,6 +81,7 @@ IsBadRecord Play input n = ⊥
 IsBadRecord (PlayShown shown) input n = ⊥
 IsBadRecord (PlayDrawn part) input n = ⊥
 IsBadRecord PlayJson input n = ⊥
+IsBadRecord PlayPage input n = ⊥
 IsBadRecord PlayTree input n = ⊥
 IsBadRecord History input n = bad_line input ≡ Some n
 IsBadRecord HistoryJson input n = bad_line input ≡ Some n
@@ -96,6 +100,7 @@ IsBadJob Play input e = IsBadPlayJob input e
 IsBadJob (PlayShown shown) input e = IsBadPlayJob input e
 IsBadJob (PlayDrawn part) input e = IsBadPlayJob input e
 IsBadJob PlayJson input e = IsBadPlayJob input e
+IsBadJob PlayPage input e = IsBadPlayJob input e
 IsBadJob PlayTree input e = IsBadPlayJob input e
 IsBadJob History input e = ⊥
 IsBadJob HistoryJson input e = ⊥
@@ -114,6 +119,7 @@ IsRefused Play input = ⊥
 IsRefused (PlayShown shown) input = ⊥
 IsRefused (PlayDrawn part) input = ⊥
 IsRefused PlayJson input = ⊥
+IsRefused PlayPage input = ⊥
 IsRefused PlayTree input = ⊥
 IsRefused History input = ⊥
 IsRefused HistoryJson input = ⊥
@@ -132,6 +138,7 @@ IsFull Play input = IsFullPlay within input
 IsFull (PlayShown shown) input = IsFullPlay within input
 IsFull (PlayDrawn part) input = IsFullPlay within input
 IsFull PlayJson input = IsFullPlay within input
+IsFull PlayPage input = IsFullPlay within input
 IsFull PlayTree input = IsFullPlay within input
 IsFull History input = ⊥
 IsFull HistoryJson input = ⊥

@@ -30,6 +30,7 @@ impl InputKind {
             | Command::PlayShown(_)
             | Command::PlayDrawn(_)
             | Command::PlayJson
+            | Command::PlayPage
             | Command::PlayTree
             | Command::Explore { .. }
             | Command::ExploreMerged { .. } => InputKind::JobAndScript,

@@ -19,6 +19,7 @@ use mr_threads_shown::Seen;
 use mr_trace::mr_play::{Shown, play};
 use mr_trace::play_shown;
 use mr_trace_json::{history_json, play_json};
+use mr_trace_page::play_page;
 use mr_trace_picture::play_drawn;
 use mr_trace_svg::Part;
 use std::alloc::Global;
@@ -40,6 +41,8 @@ pub enum Command<'a> {
     PlayDrawn(Part),
     /// The same, and prints lines of JSON: each event, and what came of the run.
     PlayJson,
+    /// The same, and prints a page for a browser, which shows the run.
+    PlayPage,
     /// The same, and prints all that the namespace holds at the end in place of what came of the run.
     PlayTree,
     /// Prints the records of one segment of a job history, and how many bytes after the last whole line were dropped.
@@ -85,7 +88,7 @@ fn plain(alloc: Global, text: Vec<u8>) -> Printed
 }
 
 /// What a subcommand prints for the bytes of its input, and what is noted beside it. This is the one place that tells the subcommands apart.
-#[tactic(auto, using(crate::proofs::Failing::committer_fails, crate::proofs::Failing::trace_fails, crate::proofs::Failing::trace_json_fails, crate::proofs::Failing::history_fails, crate::proofs::Failing::play_fails, crate::proofs::Failing::shown_fails, crate::proofs::Failing::drawn_fails, crate::proofs::Failing::json_fails, crate::proofs::Failing::tree_fails, crate::proofs::Failing::history_json_fails, crate::proofs::Failing::seq_fails, crate::proofs::Failing::threads_fails, crate::proofs::Failing::seen_fails, crate::proofs::Failing::explore_fails, crate::proofs::Failing::merged_fails))]
+#[tactic(auto, using(crate::proofs::Failing::committer_fails, crate::proofs::Failing::trace_fails, crate::proofs::Failing::trace_json_fails, crate::proofs::Failing::history_fails, crate::proofs::Failing::play_fails, crate::proofs::Failing::shown_fails, crate::proofs::Failing::drawn_fails, crate::proofs::Failing::json_fails, crate::proofs::Failing::page_fails, crate::proofs::Failing::tree_fails, crate::proofs::Failing::history_json_fails, crate::proofs::Failing::seq_fails, crate::proofs::Failing::threads_fails, crate::proofs::Failing::seen_fails, crate::proofs::Failing::explore_fails, crate::proofs::Failing::merged_fails))]
 pub(crate) fn printed<T, S>(
     alloc: Global,
     host: &Host<T, S>,
@@ -124,6 +127,7 @@ where
         Command::PlayShown(shown) => play_shown(alloc, input, shown),
         Command::PlayDrawn(part) => play_drawn(alloc, input, part),
         Command::PlayJson => play_json(alloc, input),
+        Command::PlayPage => play_page(alloc, input),
         Command::PlayTree => play_tree(alloc, input),
         Command::History => Ok(plain(alloc, history_output(alloc, input)?)),
         Command::HistoryJson => Ok(plain(alloc, history_json(alloc, input)?)),

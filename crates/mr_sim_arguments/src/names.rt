@@ -60,6 +60,9 @@ pub const MERGE: &str = "merge";
 /// How many runs `explore` makes at most.
 pub const MOST: &str = "most";
 
+/// A page for a browser is asked for.
+pub const PAGE: &str = "page";
+
 /// `explore` says how far it is.
 pub const PROGRESS: &str = "progress";
 

@@ -1,8 +1,8 @@
 //! The words of `play`.
-use crate::names::{DIAGRAM, FOLD, FROM, HISTORY_NAME, JSON, ROWS, TRACE, TREE};
+use crate::names::{DIAGRAM, FOLD, FROM, HISTORY_NAME, JSON, PAGE, ROWS, TRACE, TREE};
 use crate::shown::{
-    DRAWN, FIRST_DRAWN, FOLDED, FROM_BOUNDS, HISTORY_SHOWN, JSON_SHOWN, MOST_DRAWN, ROWS_BOUNDS,
-    TRACE_SHOWN,
+    DRAWN, FIRST_DRAWN, FOLDED, FROM_BOUNDS, HISTORY_SHOWN, JSON_SHOWN, MOST_DRAWN, PAGE_SHOWN,
+    ROWS_BOUNDS, TRACE_SHOWN,
 };
 use crate::table::Word;
 
@@ -51,7 +51,9 @@ prints (with a tab between a word and its count)
 A picture has the first 400 events of the run. Of a longer run, in a file long.play, this draws the events 400 to 499:
   mrsim play --diagram --from 400 --rows 100 long.play > part.svg
 As JSON an object a line: each event, and last what came of the run. This tells the line of the event that made the marker:
-  mrsim play --json one.play | grep 'create /out/_SUCCESS'";
+  mrsim play --json one.play | grep 'create /out/_SUCCESS'
+A page shows the same in a browser, with the tree and the history at each step. It is one file, and needs no network:
+  mrsim play --page one.play > run.html";
 
 const TREE_SHOWN: &str =
     "Lists the whole namespace at the end, as `committer` does, in place of the rest";
@@ -68,7 +70,7 @@ const WORDS: &[Word] = &[
     Word {
         name: FOLD,
         help: FOLDED,
-        rules_out: &[HISTORY_NAME, JSON, TRACE, TREE],
+        rules_out: &[HISTORY_NAME, JSON, PAGE, TRACE, TREE],
         needs: &[DIAGRAM],
         ..Word::FLAG
     },
@@ -77,7 +79,7 @@ const WORDS: &[Word] = &[
         help: FIRST_DRAWN,
         value_names: &["N"],
         bounds: FROM_BOUNDS,
-        rules_out: &[HISTORY_NAME, JSON, TRACE, TREE],
+        rules_out: &[HISTORY_NAME, JSON, PAGE, TRACE, TREE],
         needs: &[DIAGRAM],
         ..Word::TEXT
     },
@@ -86,7 +88,7 @@ const WORDS: &[Word] = &[
         help: MOST_DRAWN,
         value_names: &["N"],
         bounds: ROWS_BOUNDS,
-        rules_out: &[HISTORY_NAME, JSON, TRACE, TREE],
+        rules_out: &[HISTORY_NAME, JSON, PAGE, TRACE, TREE],
         needs: &[DIAGRAM],
         ..Word::TEXT
     },
@@ -102,6 +104,12 @@ const WORDS: &[Word] = &[
         ..Word::FLAG
     },
     Word {
+        name: PAGE,
+        help: PAGE_SHOWN,
+        rules_out: &[DIAGRAM, HISTORY_NAME, JSON, TRACE],
+        ..Word::FLAG
+    },
+    Word {
         name: TRACE,
         help: TRACE_SHOWN,
         ..Word::FLAG
@@ -109,7 +117,7 @@ const WORDS: &[Word] = &[
     Word {
         name: TREE,
         help: TREE_SHOWN,
-        rules_out: &[DIAGRAM, HISTORY_NAME, JSON, TRACE],
+        rules_out: &[DIAGRAM, HISTORY_NAME, JSON, PAGE, TRACE],
         ..Word::FLAG
     },
 ];

@@ -11,6 +11,10 @@ pub const DRAWN: &str = "Prints a picture of the run (SVG) in place of the rest"
 pub const JSON_SHOWN: &str =
     "Prints lines of JSON in place of the rest: each event, then what came of the run";
 
+/// What `--page` shows.
+pub const PAGE_SHOWN: &str =
+    "Prints a page for a browser in place of the rest: the run, step by step";
+
 /// What `--trace` shows.
 pub const TRACE_SHOWN: &str = "Shows each event, with the packets that it added, before the rest";
 

@@ -3,9 +3,10 @@ use Rattle.std.proofs.Common.{◌≡◌, ◌∷◌, [], ℕ, List, Option, Some,
 use Rattle.std.proofs.lemmas.Bool.{false_from_ne_true}
 use Rattle.std.proofs.lemmas.Str.{IsUtf8-from_is_utf8, is_utf8-from_IsUtf8}
 use Rattle.std.specs.Prelude.{◌||◌, IsUtf8}
-use Rattle.std.specs.List.{range_with_len}
+use Rattle.std.specs.List.{flat_map, range_with_len}
 use Rattle.std.specs.Str.{is_utf8}
 use Rattle.mr_ids.specs.Attempt.{Attempt}
+use Rattle.mr_ids.specs.Text.{attempt_text}
 use Rattle.mr_world_model.specs.Claims.{winner}
 use Rattle.mr_world_model.specs.Ids.{Name, reduce_of}
 use Rattle.mr_world_model.specs.Packets.{Config}
@@ -13,13 +14,17 @@ use Rattle.mr_world_model.specs.Results.{visible}
 use Rattle.mr_world_model.specs.World.{World}
 use Rattle.base64.specs.Engines.{standard}
 use Rattle.base64.specs.GeneralPurpose.{encode_of}
-use Rattle.serde_json.specs.Data.{Data, Members, put, string}
+use Rattle.serde_json.specs.Data.{Data, Members, no_members, put, string}
 use Rattle.serde_json.specs.View.{items_of, view}
 use Rattle.serde_json.specs.Written.{has_float, items_have_float}
 use Rattle.serde_json.specs.declared.value.Value.{Value}
-use Rattle.mr_sim_json.specs.Members.{count, object_of, text, with_all}
-use Rattle.mr_trace_json.specs.Endings.{contents, contents_by, ending_members, ending_object, file_object, winner_data}
-use Rattle.mr_sim_json.proofs.Members.{have_float, neither, plain_object}
+use Rattle.mr_sim_json.specs.Members.{count, list, object_of, text, with_all}
+use Rattle.mr_trace_marks.specs.Fates.{fate_of}
+use Rattle.mr_trace_marks.specs.Words.{fate_word, reason}
+use Rattle.mr_trace_marks.specs.declared.mark.Mark.{Mark}
+use Rattle.mr_trace_json.specs.Decided.{fate_object, launched, place_in}
+use Rattle.mr_trace_json.specs.Endings.{came_members, contents, contents_by, ending_object, fates_member, file_object, job_members, winner_data}
+use Rattle.mr_sim_json.proofs.Members.{have_float, neither, plain_object, plain_with}
 
 plain_winner : (won : Option Attempt) → has_float (winner_data won) ≡ false
 plain_winner None = refl
@@ -41,15 +46,35 @@ plain_files : (fs : List (Name × List ℕ)) → items_have_float (items_of (map
 plain_files [] = refl
 plain_files (f ∷ fs) = neither (has_float (file_object f)) (items_have_float (items_of (map file_object fs))) (plain_file f) (plain_files fs)
 
-pub plain_ending : (cfg : Config) (w : World) (told : List ℕ) → has_float (object_of (ending_members cfg w told)) ≡ false
-plain_ending cfg w told =
+plain_came : (cfg : Config) (w : World) (told : List ℕ) → have_float (came_members cfg w told) ≡ false
+plain_came cfg w told =
     let won = map (λ r. winner w (reduce_of cfg.job r)) (range_with_len 0 cfg.reduces) in
     let files = items_have_float (items_of (map file_object (visible w))) in
-    plain_object (ending_members cfg w told)
-    (neither (items_have_float (items_of (map winner_data won))) (files || false) (plain_winners won) (neither files false (plain_files (visible w)) refl))
+    neither (items_have_float (items_of (map winner_data won))) (files || false) (plain_winners won) (neither files false (plain_files (visible w)) refl)
 
-pub is_plain : (v : Value) (cfg : Config) (w : World) (told : List ℕ) → view v ≡ ending_object cfg w told → has_float (view v) ≡ false
-is_plain v cfg w told is = ap has_float is ∙ plain_ending cfg w told
+plain_counts : (ns : List ℕ) → items_have_float (items_of (map count ns)) ≡ false
+plain_counts [] = refl
+plain_counts (n ∷ ns) = plain_counts ns
+
+plain_fate : (ms : List Mark) (a : Attempt) → has_float (fate_object ms a) ≡ false
+plain_fate ms a =
+    let events = items_have_float (items_of (map count (flat_map (place_in a) ms))) in
+    plain_object ((codes "attempt", text (attempt_text a)) ∷ (codes "fate", text (fate_word (fate_of ms a))) ∷ (codes "why", text (reason ms a (fate_of ms a))) ∷ (codes "events", list (map count (flat_map (place_in a) ms))) ∷ [])
+    (neither events false (plain_counts (flat_map (place_in a) ms)) refl)
+
+plain_fates : (ms : List Mark) (all : List Attempt) → items_have_float (items_of (map (fate_object ms) all)) ≡ false
+plain_fates ms [] = refl
+plain_fates ms (a ∷ all) = neither (has_float (fate_object ms a)) (items_have_float (items_of (map (fate_object ms) all))) (plain_fate ms a) (plain_fates ms all)
+
+pub plain_ending : (cfg : Config) (w : World) (ms : List Mark) (told : List ℕ) → has_float (ending_object cfg w ms told) ≡ false
+plain_ending cfg w ms told =
+    let came = with_all (came_members cfg w told) no_members in
+    let fates = items_have_float (items_of (map (fate_object ms) (flat_map launched ms))) in
+    plain_with (job_members cfg) (with_all (fates_member ms ∷ []) came) refl
+    (plain_with (fates_member ms ∷ []) came (neither fates false (plain_fates ms (flat_map launched ms)) refl) (plain_with (came_members cfg w told) no_members (plain_came cfg w told) refl))
+
+pub is_plain : (v : Value) (cfg : Config) (w : World) (ms : List Mark) (told : List ℕ) → view v ≡ ending_object cfg w ms told → has_float (view v) ≡ false
+is_plain v cfg w ms told is = ap has_float is ∙ plain_ending cfg w ms told
 
 -- ---- what is in a file
 

@@ -5,7 +5,7 @@ use Rattle.std.specs.Str.{is_utf8}
 use Rattle.base64.specs.Engines.{standard}
 use Rattle.base64.specs.GeneralPurpose.{encode_of}
 use Rattle.mr_ids.specs.Attempt.{Attempt}
-use Rattle.mr_ids.specs.Text.{attempt_text}
+use Rattle.mr_ids.specs.Text.{attempt_text, job_text}
 use Rattle.mr_world_events.specs.declared.event.Event.{Event}
 use Rattle.mr_script.specs.Expected.{outcome_word}
 use Rattle.mr_world_model.specs.Ids.{Name, marker, reduce_of}
@@ -16,10 +16,12 @@ use Rattle.mr_world_model.specs.Claims.{winner}
 use Rattle.mr_world_model.specs.Results.{outcome, visible}
 use Rattle.mr_trace.specs.mr_world.specs.Journal.{Journal, world_in}
 use Rattle.mr_trace.specs.declared.makers.Maker.{Maker}
-use Rattle.mr_trace.specs.Happened.{happened_in}
-use Rattle.serde_json.specs.Data.{Data, boolean, null, string}
-use Rattle.mr_sim_json.specs.Members.{Member, count, line_of, list, object_of, text}
-use Rattle.mr_trace_json.specs.Objects.{objects_text}
+use Rattle.mr_trace_marks.specs.declared.mark.Mark.{Mark}
+use Rattle.mr_trace_decisions.specs.Decisions.{marks_in}
+use Rattle.mr_trace_json.specs.Decided.{fate_objects}
+use Rattle.serde_json.specs.Data.{Data, boolean, no_members, null, object, string}
+use Rattle.mr_sim_json.specs.Members.{Member, count, line_of, list, object_of, text, with_all}
+use Rattle.mr_trace_json.specs.Objects.{lines_behind}
 
 -- a reduce's winner, or null
 abbrev pub winner_data : Option Attempt → Data
@@ -38,9 +40,13 @@ contents bytes = contents_by (is_utf8 bytes) bytes
 abbrev pub file_object : Name × List ℕ → Data
 file_object f = object_of ((codes "name", text f.0) ∷ (codes "bytes", count (length f.1)) ∷ contents f.1 ∷ [])
 
+-- the job, how many splits, reduces and nodes it has, and the first generation that writes version 2
+abbrev pub job_members : Config → List Member
+job_members cfg = (codes "job", text (job_text cfg.job)) ∷ (codes "splits", count (length cfg.splits)) ∷ (codes "reduces", count cfg.reduces) ∷ (codes "nodes", count cfg.nodes) ∷ (codes "v2from", count cfg.v2_from) ∷ []
+
 -- winners by reduce, the marker, the outcome, the visible files by rising name, and the lines that were told of refused events and of what is not as expected
-abbrev pub ending_members : Config → World → List ℕ → List Member
-ending_members cfg w told =
+abbrev pub came_members : Config → World → List ℕ → List Member
+came_members cfg w told =
     (codes "winners", list (map winner_data (map (λ r. winner w (reduce_of cfg.job r)) (range_with_len 0 cfg.reduces))))
     ∷ (codes "marker", boolean (is_file (entry_at w.content marker)))
     ∷ (codes "outcome", text (outcome_word (outcome w)))
@@ -48,12 +54,17 @@ ending_members cfg w told =
     ∷ (codes "told", text told)
     ∷ []
 
-abbrev pub ending_object : Config → World → List ℕ → Data
-ending_object cfg w told = object_of (ending_members cfg w told)
+-- what becomes of each attempt at a reduce by these marks
+abbrev pub fates_member : List Mark → Member
+fates_member ms = (codes "fates", list (fate_objects ms))
 
-abbrev pub ending_line : Config → World → List ℕ → List ℕ
-ending_line cfg w told = line_of (ending_object cfg w told)
+-- what came of the run, the fates, and the job, put to an object in turn
+abbrev pub ending_object : Config → World → List Mark → List ℕ → Data
+ending_object cfg w ms told = object (with_all (job_members cfg) (with_all (fates_member ms ∷ []) (with_all (came_members cfg w told) no_members)))
+
+abbrev pub ending_line : Config → World → List Mark → List ℕ → List ℕ
+ending_line cfg w ms told = line_of (ending_object cfg w ms told)
 
 -- all lines of a run, where this tells who makes an event: what happened, an object each, and last what came of it
 abbrev pub json_text : (Journal → Maker) → List ℕ → Journal → List ℕ
-json_text who told j = objects_text (happened_in who j) ++ ending_line j.config (world_in j) told
+json_text who told j = lines_behind who [] j.config [] j.events ++ ending_line j.config (world_in j) (marks_in j) told

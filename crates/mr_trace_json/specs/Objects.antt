@@ -1,6 +1,5 @@
 -- What happened in a run as objects, one a line (our own profile): the same list as a trace tells, and its words.
-use Rattle.std.specs.Prelude.{ℕ, ◌+◌, List, [], ◌∷◌, length, Option, Some, None, codes}
-use Rattle.std.specs.List.{flat_map}
+use Rattle.std.specs.Prelude.{ℕ, ◌+◌, List, [], ◌∷◌, ◌++◌, drop, length, Option, Some, None, codes}
 use Rattle.mr_ids.specs.Text.{task_text}
 use Rattle.mr_packet.specs.declared.packet.Envelope.{Envelope}
 use Rattle.mr_world_events.specs.declared.event.Event.{Event}
@@ -13,7 +12,12 @@ use Rattle.mr_script.specs.Words.{container_word}
 use Rattle.mr_trace.specs.mr_world_state.specs.declared.asked.Asked.{Asked}
 use Rattle.mr_trace.specs.declared.makers.Maker.{Maker}
 use Rattle.mr_trace.specs.declared.makers.Maker.TheVariants as maker
-use Rattle.mr_trace.specs.Happened.{Happened}
+use Rattle.mr_trace.specs.Happened.{Happened, happened}
+use Rattle.mr_trace.specs.mr_world.specs.Journal.{Journal}
+use Rattle.mr_world_model.specs.Packets.{Config}
+use Rattle.mr_trace_marks.specs.declared.mark.Mark.{Mark}
+use Rattle.mr_trace_decisions.specs.Decisions.{marks_with}
+use Rattle.mr_trace_json.specs.Decided.{with_decided}
 use Rattle.mr_trace.specs.Trace.{call_text, heard_text, seat_text, weather_of}
 use Rattle.mr_trace.specs.Words.{address_text, packet_text}
 use Rattle.serde_json.specs.Data.{Data, Members, boolean, no_members, object, put, string}
@@ -93,12 +97,20 @@ abbrev pub with_beginning : Happened → Members → Members
 with_beginning h ms =
     with_all (asked_members (weather_of h.event) h.asked) (with_all (maker_members h.maker) (with_all (name_members h.name) (with_all (event_members h.event) (put (codes "place") (count h.place) ms))))
 
--- and then the packets that it added
-abbrev pub happened_object : Happened → Data
-happened_object h = object (with_all (packets_member h.first h.packets ∷ []) (with_beginning h no_members))
+-- and then what it decided, by these marks, and the packets that it added
+abbrev pub happened_object : Happened → List Mark → Data
+happened_object h ms = object (with_all (packets_member h.first h.packets ∷ []) (with_decided ms (with_beginning h no_members)))
 
-abbrev pub happened_line : Happened → List ℕ
-happened_line h = line_of (happened_object h)
+abbrev pub happened_line : Happened → List Mark → List ℕ
+happened_line h ms = line_of (happened_object h ms)
 
-abbrev pub objects_text : List Happened → List ℕ
-objects_text all = flat_map happened_line all
+-- an event behind those of a journal, with the marks that it adds to these
+abbrev pub new_line : (Journal → Maker) → List Mark → Journal → Event → List ℕ
+new_line who ms j e = happened_line (happened who j e) (drop (length ms) (marks_with ms j e))
+
+-- these events in turn, behind those that were before them and their marks
+abbrev pub lines_behind : (Journal → Maker) → List Mark → Config → List Event → List Event → List ℕ
+lines_behind who ms cfg before [] = []
+lines_behind who ms cfg before (e ∷ es) =
+    new_line who ms (record { config = cfg; events = before }) e
+    ++ lines_behind who (marks_with ms (record { config = cfg; events = before }) e) cfg (before ++ e ∷ []) es

@@ -10,43 +10,79 @@ ghost use Rattle.mr_trace.specs.mr_world.specs.Journal.{world_in};
 ghost use Rattle.mr_trace.specs.mr_world.specs.VisibleFiles.{as_pair};
 ghost use Rattle.serde_json.specs.View.{members_view, view};
 ghost use Rattle.mr_sim_json.specs.Members.{with_all};
-ghost use Rattle.mr_trace_json.specs.Endings.{contents, ending_line, ending_object, file_object, winner_data};
+ghost use Rattle.mr_trace_json.specs.Endings.{came_members, contents, ending_line, ending_object, file_object, job_members, winner_data};
 
+use crate::fates::fate_values;
 use base64::engine::general_purpose::STANDARD;
 use mr_ids::AttemptId;
 use mr_sim_json::{
     Object, into_value, put_count, put_flag, put_line, put_list, put_text, put_word,
 };
 use mr_trace::mr_play::read;
-use mr_trace::mr_world::{VisibleFile, World};
+use mr_trace::mr_world::{Config, VisibleFile, World};
+use mr_trace_marks::Mark;
 use serde_json::Value;
 use std::alloc::{AllocError, Global};
 
 /// What came of a run: the winner of each reduce by number, whether the marker is there, the outcome, and the files that a reader of the destination
-/// sees. Beside them stand the lines that were told of refused events and of what is not as expected.
+/// sees. Beside them stand the lines that were told of refused events and of what is not as expected, what becomes of each attempt at a reduce by the marks of
+/// the run, and the job.
 #[tactic(auto, using(crate::proofs::Ended::is_plain))]
 pub fn put_ending(
     out: &mut Vec<u8>,
     alloc: Global,
     world: &World,
+    marks: &[Mark],
     told: &[u8],
 ) -> Result<(), AllocError>
-    ensures { OnOk result (out.new.items ≡ out.old.items ++ ending_line world.now.config (world_in world.now) told.now) }
+    ensures { OnOk result (out.new.items ≡ out.old.items ++ ending_line world.now.config (world_in world.now) marks.now told.now) }
 {
-    let value = ending_value(alloc, world, told)?;
+    let value = ending_value(alloc, world, marks, told)?;
     put_line(out, alloc, &value)
 }
 
-fn ending_value(alloc: Global, world: &World, told: &[u8]) -> Result<Value, AllocError>
-    ensures { IfOk result (λ v. view v ≡ ending_object world.now.config (world_in world.now) told.now) }
+fn ending_value(
+    alloc: Global,
+    world: &World,
+    marks: &[Mark],
+    told: &[u8],
+) -> Result<Value, AllocError>
+    ensures { IfOk result (λ v. view v ≡ ending_object world.now.config (world_in world.now) marks.now told.now) }
 {
     let mut object = Object::new(alloc);
-    put_list(&mut object, alloc, "winners", winners(alloc, world)?)?;
-    put_flag(&mut object, alloc, "marker", marker(world)?)?;
-    put_text(&mut object, alloc, "outcome", outcome_word(world.outcome()))?;
-    put_list(&mut object, alloc, "files", files(alloc, world)?)?;
-    put_text(&mut object, alloc, "told", told)?;
+    put_came(&mut object, alloc, world, told)?;
+    put_list(&mut object, alloc, "fates", fate_values(alloc, marks)?)?;
+    put_job(&mut object, alloc, world.config())?;
     Ok(into_value(object))
+}
+
+// What came of the run.
+fn put_came(
+    object: &mut Object,
+    alloc: Global,
+    world: &World,
+    told: &[u8],
+) -> Result<(), AllocError>
+    ensures { OnOk result (members_view object.new.entries ≡ with_all (came_members world.now.config (world_in world.now) told.now) (members_view object.old.entries)) }
+{
+    put_list(object, alloc, "winners", winners(alloc, world)?)?;
+    put_flag(object, alloc, "marker", marker(world)?)?;
+    put_text(object, alloc, "outcome", outcome_word(world.outcome()))?;
+    put_list(object, alloc, "files", files(alloc, world)?)?;
+    put_text(object, alloc, "told", told)
+}
+
+// The job, how many splits, reduces and nodes it has, and the first generation that writes version 2.
+fn put_job(object: &mut Object, alloc: Global, config: &Config) -> Result<(), AllocError>
+    ensures { OnOk result (members_view object.new.entries ≡ with_all (job_members config.now) (members_view object.old.entries)) }
+{
+    let mut name = Vec::new(alloc);
+    config.job.write(&mut name)?;
+    put_text(object, alloc, "job", &name)?;
+    put_count(object, alloc, "splits", config.splits.len() as u64)?;
+    put_count(object, alloc, "reduces", u64::from(config.reduces))?;
+    put_count(object, alloc, "nodes", u64::from(config.nodes))?;
+    put_count(object, alloc, "v2from", u64::from(config.v2_from))
 }
 
 // The winner of each reduce by number.

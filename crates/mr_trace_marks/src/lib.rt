@@ -6,6 +6,8 @@
 //!   exactly where the attempt has the mark *won*.
 //! - **The words** of marks and of fates, with the events that they name, are exactly those of the definitions (`specs/Words`): one table.
 //! - `place_of` answers the place of an attempt's first mark with a sign, and none where it has none.
+//!
+//! Which marks an event makes is in mr_trace_decisions.
 #![tactic(auto)]
 
 mod fate;

@@ -7,7 +7,7 @@ use clap::{ArgMatches, Error};
 use mr_sim::{Asked, Ending, Expectation, Form, Part, Question, Seen, Shown, SimFault};
 use mr_sim_arguments::{
     DEEP, DIAGRAM, FAULTS, FILE, FIND, FOLD, FROM, HISTORY_NAME, HOLD, JOBS, JSON, MERGE, MOST,
-    PROGRESS, ROWS, SCRIPT, SECONDS, TRACE, TREE, TURNS,
+    PAGE, PROGRESS, ROWS, SCRIPT, SECONDS, TRACE, TREE, TURNS,
 };
 
 /// The subcommand that the words name. Words without one are refused before.
@@ -94,6 +94,9 @@ fn play_of<'a>(words: &ArgMatches<'_>) -> mr_sim::Command<'a> {
     }
     if words.get_flag(JSON) {
         return mr_sim::Command::PlayJson;
+    }
+    if words.get_flag(PAGE) {
+        return mr_sim::Command::PlayPage;
     }
     if words.get_flag(TREE) {
         return mr_sim::Command::PlayTree;

@@ -1,0 +1,2 @@
+-- The page of a run: Pages.
+pub mod Pages
