@@ -2,11 +2,10 @@ pub mod Texts
 pub mod Widths
 pub mod Lines
 pub mod Told
-pub mod Cuts
-pub mod Endings
 pub mod Splits
 pub mod Tellings
 pub mod Replays
+pub mod Beginnings
 pub mod Segments
 pub mod Histories
 pub mod Stored

@@ -5,7 +5,7 @@ use Rattle.std.specs.List.{list_all}
 use Rattle.std.proofs.lemmas.Bool.{and_parts}
 use Rattle.std.proofs.lemmas.Bool.Decides.{nat_tests}
 use Rattle.std.proofs.lemmas.Fmt.{IsAscii-decimal}
-use Rattle.std.proofs.lemmas.Str.{IsUtf8-from_ascii}
+use Rattle.std.proofs.lemmas.Str.{IsUtf8-append, IsUtf8-from_ascii}
 use Rattle.json.specs.Lex.{tokens}
 use Rattle.json.specs.Print.{quoted, escape, escape_byte}
 use Rattle.json.specs.Tree.{json_tokens, HasNumbers, depth}
@@ -95,7 +95,7 @@ read-line_of r h =
     ap read (sym (compact-value_of r))
     ∙ ap (λ p. option_and_then of_json (option_and_then (λ (q : json.Json × List Token). json.if_last q.0 q.1) p)) parsed ∙ of_json-outline r h
 
--- ---- the texts in it are UTF-8
+-- ---- each line is UTF-8
 
 plain_ascii : (xs : List ℕ) → list_all plain xs ≡ true → are_ascii xs ≡ true
 plain_ascii [] h = refl
@@ -104,8 +104,30 @@ plain_ascii (x ∷ xs) h = let p = and_parts (plain x) (list_all plain xs) h in 
     low : (x : ℕ) → plain x ≡ true → nat_lt x 128 ≡ true
     low x h = grind (arith, nat_tests)
 
-pub attempt_utf8 : (a : Attempt) → IsUtf8 (attempt_text a)
+attempt_utf8 : (a : Attempt) → IsUtf8 (attempt_text a)
 attempt_utf8 a = IsUtf8-are_ascii (attempt_text a) (plain_ascii (attempt_text a) (attempt_plain a))
 
-pub number_utf8 : (n : ℕ) → n < 2 ^ 32 → IsUtf8 (decimal n)
+number_utf8 : (n : ℕ) → n < 2 ^ 32 → IsUtf8 (decimal n)
 number_utf8 n h = IsUtf8-from_ascii (decimal n) (IsAscii-decimal n (omega arith))
+
+told_utf8 : (a : Attempt) (rest : List ℕ) → IsUtf8 rest → IsUtf8 (codes "{\"attempt\":\"" ++ (attempt_text a ++ rest))
+told_utf8 a rest h = IsUtf8-append (codes "{\"attempt\":\"") (attempt_text a ++ rest) (IsUtf8-are_ascii (codes "{\"attempt\":\"") refl) (IsUtf8-append (attempt_text a) rest (attempt_utf8 a) h)
+
+literal : (text : List ℕ) → are_ascii text ≡ true → (rest : List ℕ) → IsUtf8 rest → IsUtf8 (text ++ rest)
+literal text e rest h = IsUtf8-append text rest (IsUtf8-are_ascii text e) h
+
+pub IsUtf8-line_of : (r : Record) → InRange r → IsUtf8 (line_of r)
+unfolding line_of
+IsUtf8-line_of (AttemptStarted a node) h =
+    told_utf8 a _ (literal (codes "\",\"event\":\"started\",\"node\":") refl _
+    (IsUtf8-append (decimal node) (codes "}") (number_utf8 node h.1) (IsUtf8-are_ascii (codes "}") refl)))
+IsUtf8-line_of (MapSucceeded a node incarnation) h =
+    told_utf8 a _ (literal (codes "\",\"event\":\"map\",\"incarnation\":") refl _
+    (IsUtf8-append (decimal incarnation) _ (number_utf8 incarnation h.2) (literal (codes ",\"node\":") refl _
+    (IsUtf8-append (decimal node) (codes "}") (number_utf8 node h.1) (IsUtf8-are_ascii (codes "}") refl)))))
+IsUtf8-line_of (ReduceSucceeded a (Some bytes)) h =
+    told_utf8 a _ (literal (codes "\",\"bytes\":") refl _
+    (IsUtf8-append (decimal bytes) _ (number_utf8 bytes h.1) (IsUtf8-are_ascii (codes ",\"event\":\"reduce\"}") refl)))
+IsUtf8-line_of (ReduceSucceeded a None) h = told_utf8 a _ (IsUtf8-are_ascii (codes "\",\"event\":\"reduce\"}") refl)
+IsUtf8-line_of (AttemptFailed a) h = told_utf8 a _ (IsUtf8-are_ascii (codes "\",\"event\":\"failed\"}") refl)
+IsUtf8-line_of JobUnsuccessful h = IsUtf8-are_ascii (codes "{\"event\":\"unsuccessful\"}") refl

@@ -1,2 +1,2 @@
 -- Words for private contracts.
-pub mod Ending
+pub mod Ahead

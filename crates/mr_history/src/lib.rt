@@ -85,6 +85,7 @@
 //!   not above the fence (`History::is_raised`).
 #![tactic(auto)]
 
+mod ahead;
 mod fault;
 mod generations;
 mod history;

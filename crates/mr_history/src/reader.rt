@@ -1,112 +1,86 @@
-//! The reader of a record's line: it goes over the bytes once, and takes no memory.
-ghost use Rattle.std.specs.Prelude.{◌≡◌, ◌≢◌, ◌<◌, ◌^◌, ◌++◌, ◌∷◌, ℕ, List, All, IfSome, IfNone, IsTrue, MatchOption, Some, None, codes, decimal};
+//! The record of a line: `serde_json` reads the value, and the line is a record's where it is the text that this record is written as.
+ghost use Rattle.std.specs.Prelude.{◌≡◌, ◌<◌, ◌^◌, codes, IfOk, IfSome, Some, None, ℕ, option_map, option_and_then};
+ghost use Rattle.serde_json.specs.Data.{number, unsigned};
+ghost use Rattle.serde_json.specs.Find.{get, as_str};
+ghost use Rattle.serde_json.specs.View.{view};
 ghost use Rattle.mr_ids.specs.Attempt.{Attempt};
 ghost use Rattle.mr_ids.specs.Text.{attempt_text, IsAttempt};
 ghost use Rattle.mr_history.specs.declared.record.Record.{Record};
-ghost use Rattle.mr_history.specs.declared.record.Record.TheVariants.{ReduceSucceeded, AttemptFailed, JobUnsuccessful};
-ghost use Rattle.mr_history.specs.Line.{line_of, InRange};
+ghost use Rattle.mr_history.specs.declared.record.Record.TheVariants.{AttemptStarted, MapSucceeded};
+ghost use Rattle.mr_history.specs.Json.{value_of};
+ghost use Rattle.mr_history.specs.Line.{line_of, IsRecord, InRange};
 ghost use Rattle.mr_history.specs.Reading.{record_of};
-ghost use Rattle.mr_history.specs.inner.Ending.{Ends};
 
+use crate::line::line;
 use crate::record::Record;
-use itoa::Buffer;
 use mr_ids::AttemptId;
-use std::str;
+use serde_json::Value;
+use std::alloc::{AllocError, Global};
 
-/// The record whose line these bytes are in a segment of this version, if there is one.
-pub fn record_of(version: u32, text: &[u8]) -> Option<Record>
-    ensures { result ≡ record_of version text.now }
+fn text_in<'v>(value: &'v Value, name: &str) -> Option<&'v str>
+    ensures { option_map (λ s. s.now) result ≡ option_and_then as_str (get name.now (view value.now)) }
 {
-    let Some(record) = told_in(text) else {
-        return None;
-    };
-    if record.fits() && record.is_of(version) {
-        Some(record)
-    } else {
-        None
+    value.get(name).and_then(Value::as_str)
+}
+
+fn number_in(value: &Value, name: &str) -> Option<u32>
+    ensures some { (n : ℕ) → n < 2 ^ 32 → get name.now (view value.now) ≡ Some (number (unsigned n)) → result ≡ Some n }
+    ensures none { get name.now (view value.now) ≡ None → result ≡ None }
+{
+    match value.get(name).and_then(Value::as_u64) {
+        None => None,
+        Some(n) => u32::try_from(n).ok(),
     }
 }
 
-// The record whose line these bytes are, whether it fits or not.
-fn told_in(text: &[u8]) -> Option<Record>
-    ensures found { IfSome result (λ r. InRange r × (text.now ≡ line_of r)) }
-    ensures only { (r : Record) → InRange r → text.now ≡ line_of r → result ≡ Some r }
+// The attempt whose text this is.
+pub fn attempt_in(text: &str) -> Option<AttemptId>
+    ensures text { IfSome result (λ a. text.now ≡ attempt_text a) }
+    ensures reads { (a : Attempt) → IsAttempt a → text.now ≡ attempt_text a → result ≡ Some a }
+    ensures ranges { IfSome result IsAttempt }
 {
-    let Some(rest) = after(text, "{\"attempt\":\"") else {
-        return unsuccessful(text);
-    };
-    let Some((name, rest)) = cut(rest, b'"') else {
-        return None;
-    };
-    let Some(attempt) = attempt_in(name) else {
-        return None;
-    };
-    happened(attempt, rest)
+    AttemptId::parse(text).ok()
 }
 
-fn unsuccessful(text: &[u8]) -> Option<Record>
-    ensures found { IfSome result (λ r. InRange r × (text.now ≡ line_of r)) }
-    ensures only { text.now ≡ codes "{\"event\":\"unsuccessful\"}" → result ≡ Some JobUnsuccessful }
+// A value that is no record's gives none, or some record that has another text.
+fn record_in(value: &Value) -> Option<Record>
+    ensures reads { (r : Record) → IsRecord r → view value.now ≡ value_of r → result ≡ Some r }
+    ensures ranges { IfSome result InRange }
 {
-    if is_word(text, "{\"event\":\"unsuccessful\"}") {
-        Some(Record::JobUnsuccessful)
-    } else {
-        None
+    let event = text_in(value, "event")?;
+    if event == "unsuccessful" {
+        return Some(Record::JobUnsuccessful);
+    }
+    let attempt = attempt_in(text_in(value, "attempt")?)?;
+    match event {
+        "started" => started_in(value, attempt),
+        "reduce" => {
+            let bytes = number_in(value, "bytes");
+            Some(Record::ReduceSucceeded { attempt, bytes })
+        }
+        "failed" => Some(Record::AttemptFailed { attempt }),
+        _ => mapped_in(value, attempt),
     }
 }
 
-fn attempt_in(name: &[u8]) -> Option<AttemptId>
-    ensures found { IfSome result (λ a. IsAttempt a × (name.now ≡ attempt_text a)) }
-    ensures only { (a : Attempt) → IsAttempt a → name.now ≡ attempt_text a → result ≡ Some a }
+fn started_in(value: &Value, attempt: AttemptId) -> Option<Record>
+    ensures reads { (node : ℕ) → node < 2 ^ 32 → get (codes "node") (view value.now) ≡ Some (number (unsigned node)) →
+        result ≡ Some (AttemptStarted attempt node) }
+    ensures ranges { IfSome result InRange }
 {
-    let Ok(text) = str::from_utf8(name) else {
-        return None;
-    };
-    match AttemptId::parse(text) {
-        Ok(attempt) => Some(attempt),
-        Err(_) => None,
-    }
-}
-
-// What the bytes behind an attempt's text tell of it.
-fn happened(attempt: AttemptId, text: &[u8]) -> Option<Record>
-    ensures found { IfSome result (λ r. InRange r × Ends attempt text.now r) }
-    ensures only { (r : Record) → InRange r → Ends attempt text.now r → result ≡ Some r }
-{
-    if let Some(rest) = after(text, ",\"event\":\"started\",\"node\":") {
-        started(attempt, rest)
-    } else if let Some(rest) = after(text, ",\"event\":\"map\",\"incarnation\":") {
-        mapped(attempt, rest)
-    } else if let Some(rest) = after(text, ",\"bytes\":") {
-        measured(attempt, rest)
-    } else {
-        ended(attempt, text)
-    }
-}
-
-fn started(attempt: AttemptId, text: &[u8]) -> Option<Record>
-    ensures found { IfSome result (λ r. InRange r × Ends attempt (codes ",\"event\":\"started\",\"node\":" ++ text.now) r) }
-    ensures only { (r : Record) → InRange r → Ends attempt (codes ",\"event\":\"started\",\"node\":" ++ text.now) r → result ≡ Some r }
-{
-    let Some(node) = number_before(text, "}") else {
-        return None;
-    };
+    let node = number_in(value, "node")?;
     Some(Record::AttemptStarted { attempt, node })
 }
 
-fn mapped(attempt: AttemptId, text: &[u8]) -> Option<Record>
-    ensures found { IfSome result (λ r. InRange r × Ends attempt (codes ",\"event\":\"map\",\"incarnation\":" ++ text.now) r) }
-    ensures only { (r : Record) → InRange r → Ends attempt (codes ",\"event\":\"map\",\"incarnation\":" ++ text.now) r → result ≡ Some r }
+fn mapped_in(value: &Value, attempt: AttemptId) -> Option<Record>
+    ensures reads { (node incarnation : ℕ) → node < 2 ^ 32 → incarnation < 2 ^ 32 →
+        get (codes "node") (view value.now) ≡ Some (number (unsigned node)) →
+        get (codes "incarnation") (view value.now) ≡ Some (number (unsigned incarnation)) →
+        result ≡ Some (MapSucceeded attempt node incarnation) }
+    ensures ranges { IfSome result InRange }
 {
-    let Some((first, rest)) = cut(text, b',') else {
-        return None;
-    };
-    let Some(incarnation) = number(first) else {
-        return None;
-    };
-    let Some(node) = node_in(rest) else {
-        return None;
-    };
+    let node = number_in(value, "node")?;
+    let incarnation = number_in(value, "incarnation")?;
     Some(Record::MapSucceeded {
         attempt,
         node,
@@ -114,103 +88,33 @@ fn mapped(attempt: AttemptId, text: &[u8]) -> Option<Record>
     })
 }
 
-fn node_in(text: &[u8]) -> Option<u32>
-    ensures found { IfSome result (λ n. (n < 2 ^ 32) × (text.now ≡ codes "\"node\":" ++ (decimal n ++ codes "}"))) }
-    ensures only { (n : ℕ) → n < 2 ^ 32 → text.now ≡ codes "\"node\":" ++ (decimal n ++ codes "}") → result ≡ Some n }
+/// The record whose line these bytes are in a segment of this version, if there is one.
+pub fn record_of(alloc: Global, version: u32, text: &[u8]) -> Result<Option<Record>, AllocError>
+    ensures { IfOk result (λ o. o ≡ record_of version text.now) }
 {
-    let Some(rest) = after(text, "\"node\":") else {
-        return None;
+    let Some(record) = likely_record(alloc, text)? else {
+        return Ok(None);
     };
-    number_before(rest, "}")
-}
-
-fn measured(attempt: AttemptId, text: &[u8]) -> Option<Record>
-    ensures found { IfSome result (λ r. InRange r × Ends attempt (codes ",\"bytes\":" ++ text.now) r) }
-    ensures only { (r : Record) → InRange r → Ends attempt (codes ",\"bytes\":" ++ text.now) r → result ≡ Some r }
-{
-    let Some(bytes) = number_before(text, ",\"event\":\"reduce\"}") else {
-        return None;
-    };
-    Some(Record::ReduceSucceeded {
-        attempt,
-        bytes: Some(bytes),
-    })
-}
-
-// What is told without a number.
-fn ended(attempt: AttemptId, text: &[u8]) -> Option<Record>
-    ensures found { IfSome result (λ r. InRange r × Ends attempt text.now r) }
-    ensures reduce { text.now ≡ codes ",\"event\":\"reduce\"}" → result ≡ Some (ReduceSucceeded attempt None) }
-    ensures failed { text.now ≡ codes ",\"event\":\"failed\"}" → result ≡ Some (AttemptFailed attempt) }
-{
-    if is_word(text, ",\"event\":\"reduce\"}") {
-        Some(Record::ReduceSucceeded {
-            attempt,
-            bytes: None,
-        })
-    } else if is_word(text, ",\"event\":\"failed\"}") {
-        Some(Record::AttemptFailed { attempt })
+    if record.fits() && record.is_of(version) && line(alloc, &record)?.as_bytes() == text {
+        Ok(Some(record))
     } else {
-        None
+        Ok(None)
     }
 }
 
-// The number that stands before these last bytes.
-fn number_before(text: &[u8], ending: &str) -> Option<u32>
-    ensures found { IfSome result (λ n. (n < 2 ^ 32) × (text.now ≡ decimal n ++ ending.now)) }
-    ensures only { (n : ℕ) → n < 2 ^ 32 → text.now ≡ decimal n ++ ending.now → result ≡ Some n }
+// The record that these bytes write, if they are a record's line. Else none, or some record that has another line.
+fn likely_record(alloc: Global, text: &[u8]) -> Result<Option<Record>, AllocError>
+    ensures reads { IfOk result (λ o. (r : Record) → IsRecord r → text.now ≡ line_of r → o ≡ Some r) }
+    ensures ranges { IfOk result (λ o. IfSome o InRange) }
 {
-    let Some(word) = before(text, ending) else {
-        return None;
-    };
-    number(word)
-}
-
-// The number below 2^32 that the word is in decimal, with no zero in front.
-fn number(word: &[u8]) -> Option<u32>
-    ensures found { IfSome result (λ n. (n < 2 ^ 32) × (word.now ≡ decimal n)) }
-    ensures only { (n : ℕ) → n < 2 ^ 32 → word.now ≡ decimal n → result ≡ Some n }
-{
-    let Ok(text) = str::from_utf8(word) else {
-        return None;
-    };
-    let Ok(n) = text.parse::<u32>() else {
-        return None;
-    };
-    let mut buffer = Buffer::new();
-    if buffer.format(n) != text {
-        return None;
+    match Value::from_slice(alloc, text) {
+        Ok(value) => Ok(record_in(&value)),
+        Err(error) => {
+            if error.is_memory() {
+                Err(AllocError)
+            } else {
+                Ok(None)
+            }
+        }
     }
-    Some(n)
-}
-
-// Whether the bytes are these.
-fn is_word(text: &[u8], word: &str) -> bool
-    ensures yes { IsTrue result → text.now ≡ word.now }
-    ensures no { text.now ≡ word.now → IsTrue result }
-{
-    text == word.as_bytes()
-}
-
-// The bytes behind these first ones.
-fn after<'t>(text: &'t [u8], word: &str) -> Option<&'t [u8]>
-    ensures { MatchOption result ((rest : List ℕ) → text.now ≢ word.now ++ rest) (λ x. text.now ≡ word.now ++ x.now) }
-{
-    text.strip_prefix(word.as_bytes())
-}
-
-// The bytes before these last ones.
-fn before<'t>(text: &'t [u8], word: &str) -> Option<&'t [u8]>
-    ensures { MatchOption result ((front : List ℕ) → text.now ≢ front ++ word.now) (λ x. text.now ≡ x.now ++ word.now) }
-{
-    text.strip_suffix(word.as_bytes())
-}
-
-// The bytes before the first of these bytes, and those after it.
-fn cut(text: &[u8], at: u8) -> Option<(&[u8], &[u8])>
-    ensures some { IfSome result (λ p. All (λ b. b ≢ at) p.0.now × (text.now ≡ p.0.now ++ at ∷ p.1.now)) }
-    ensures none { IfNone result (All (λ b. b ≢ at) text.now) }
-{
-    let at = text.iter().position(|b| *b == at)?;
-    Some((&text[..at], &text[at + 1..]))
 }
