@@ -3,3 +3,4 @@ pub mod Noting
 pub mod Plain
 pub mod Inverse
 pub mod Listing
+pub mod Schemed

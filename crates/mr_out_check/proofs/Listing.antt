@@ -2,15 +2,15 @@
 use Rattle.std.proofs.Common.{◌≡◌, ℕ, Bool, true, false, not, List, [], ◌∷◌, ◌++◌, ◌==◌, length, Option, Some, None, Result, Ok, Err, IfSome, if◌then◌else◌, refl, sym, subst, ap, ◌∙◌, inl, inr, ◌⊎◌}
 use Rattle.std.specs.Io.BufRead.{take_through, drop_through}
 use Rattle.mr_out_listing.specs.Lines.{Sight, end_of}
-use Rattle.mr_out_listing.specs.Reading.{Heard, State, heard, onto, onto_piece, pieces_of, said_by, said_on, start}
+use Rattle.mr_out_listing.specs.Reading.{Heard, Listed, State, ended, heard, onto, onto_piece, pieces_of, said_by, said_on, start}
 use Rattle.mr_out_listing.specs.declared.fault.ListingFault.{ListingFault}
-use Rattle.mr_out_listing.specs.declared.fault.ListingFault.TheVariants.{BadLine, Outside}
+use Rattle.mr_out_listing.specs.declared.fault.ListingFault.TheVariants.{BadLine, Outside, Miscounted}
 use Rattle.mr_out_listing.specs.declared.format.Format.{Format}
 use Rattle.mr_out_check.specs.declared.reading.CheckFault.{CheckFault}
 use Rattle.mr_out_check.specs.declared.reading.CheckFault.TheVariants as fault
 use Rattle.mr_out_check.specs.declared.reading.Looked.{Looked}
 use Rattle.mr_out_check.specs.Seen.{Seen, nothing, seen_all, seen_with}
-use Rattle.mr_out_check.specs.Readings.{AnswersAs, IsLooked, IsReadFault, Looks, PieceIsRead, Takes, TakesBy, looked, seen_if, seen_said}
+use Rattle.mr_out_check.specs.Readings.{AnswersAs, Found, IsLooked, IsReadFault, Looks, PieceIsRead, Takes, TakesBy, looked, seen_if, seen_said}
 
 -- the first piece of a text, and the pieces of the rest
 abbrev IsFirst : ℕ → ℕ → List ℕ → Bool → Type 0
@@ -25,7 +25,7 @@ first-piece end b [] = first-by end b [] (b == end) refl
 first-piece end b (c ∷ bytes) = first-by end b (c ∷ bytes) (b == end) (ap (onto_piece b) (first-piece end c bytes))
 
 -- what a line adds
-pub line-adds : (s : Seen) (told : Option Sight) (rest : Result (List Sight) ListingFault) → seen_said s (onto told rest) ≡ seen_said (seen_if told s) rest
+pub line-adds : (s : Seen) (told : Option Sight) (rest : Result Listed ListingFault) → seen_said s (onto told rest) ≡ seen_said (seen_if told s) rest
 line-adds s None rest = refl
 line-adds s (Some x) (Ok xs) = refl
 line-adds s (Some x) (Err f) = refl
@@ -72,25 +72,15 @@ goes-on f s new st next piece first now left follows read t = λ bytes e.
     (after.0, after.1, after.2 ∙ was.2)
 
 -- nothing is left
-ended : (f : Format) (s : Seen) (st : State) (piece rest bytes : List ℕ) (left : Option (List ℕ)) → PieceIsRead (end_of f) rest false piece left → seen_said s (said_by st (pieces_of (end_of f) rest)) ≡ looked f bytes → looked f bytes ≡ Ok s
-ended f s st piece [] bytes left read e = sym e
-ended f s st piece (b ∷ more) bytes left read e = absurd (cc)
+ended-so : (f : Format) (s : Seen) (st : State) (piece rest bytes : List ℕ) (left : Option (List ℕ)) → PieceIsRead (end_of f) rest false piece left → seen_said s (said_by st (pieces_of (end_of f) rest)) ≡ looked f bytes → seen_said s (ended st) ≡ looked f bytes
+ended-so f s st piece [] bytes left read e = e
+ended-so f s st piece (b ∷ more) bytes left read e = absurd (cc)
 
-abbrev seen-ok : Seen → Result Seen ListingFault
-seen-ok u = Ok u
-
-answered : (f : Format) (s : Seen) (bytes : List ℕ) (result : Result Looked CheckFault) → IsLooked s result → looked f bytes ≡ Ok s → Looks f bytes result
-answered f s bytes (Ok found) is e = e ∙ ap seen-ok (sym is)
-answered f s bytes (Err fault.NoMemory) is e = tt
-answered f s bytes (Err fault.Read) is e = tt
-answered f s bytes (Err (fault.BadLine n)) is e = absurd (cc)
-answered f s bytes (Err (fault.Outside n)) is e = absurd (cc)
-
-pub ends-so : (f : Format) (s : Seen) (st : State) (piece : List ℕ) (first now left : Option (List ℕ)) (result : Result Looked CheckFault) → Follows f s st first now → IfSome now (λ rest. PieceIsRead (end_of f) rest false piece left) → IsLooked s result →
+pub ends-so : (f : Format) (s : Seen) (st : State) (piece : List ℕ) (first now left : Option (List ℕ)) (result : Result Looked CheckFault) → Follows f s st first now → IfSome now (λ rest. PieceIsRead (end_of f) rest false piece left) → IsLooked s st result →
     IfSome first (λ bytes. Looks f bytes result)
 ends-so f s st piece first now left result follows read is = for_all (λ bytes. Looks f bytes result) first (λ bytes e.
     let was = follows bytes e in
-    answered f s bytes result is (ended f s st piece was.0 bytes left (read-of (λ rest. PieceIsRead (end_of f) rest false piece left) now was.0 was.1 read) was.2))
+    subst (λ (seen : Result Found ListingFault). AnswersAs seen result) (ended-so f s st piece was.0 bytes left (read-of (λ rest. PieceIsRead (end_of f) rest false piece left) now was.0 was.1 read) was.2) is)
 
 -- a line that has a fault
 bad : (f : Format) (s : Seen) (st next : State) (piece rest : List ℕ) (left : Option (List ℕ)) (e : CheckFault) → PieceIsRead (end_of f) rest true piece left → Takes s st piece (Err e) next →
@@ -108,6 +98,7 @@ bad f s st next piece (b ∷ bytes) left e read t = by e t where
   by fault.Read t = tt
   by (fault.BadLine n) t = ap (λ ps. seen_said s (said_by st ps)) cut ∙ bad-line s st piece pieces (BadLine n) t
   by (fault.Outside n) t = ap (λ ps. seen_said s (said_by st ps)) cut ∙ bad-line s st piece pieces (Outside n) t
+  by (fault.Miscounted n lines) t = absurd t
 
 pub fails-so : (f : Format) (s : Seen) (st next : State) (piece : List ℕ) (first now left : Option (List ℕ)) (e : CheckFault) → Follows f s st first now → IfSome now (λ rest. PieceIsRead (end_of f) rest true piece left) → Takes s st piece (Err e) next →
     IfSome first (λ bytes. Looks f bytes (Err e))
@@ -123,6 +114,8 @@ silent f bytes (fault.BadLine n) (inl h) = absurd (cc)
 silent f bytes (fault.BadLine n) (inr h) = absurd (cc)
 silent f bytes (fault.Outside n) (inl h) = absurd (cc)
 silent f bytes (fault.Outside n) (inr h) = absurd (cc)
+silent f bytes (fault.Miscounted n lines) (inl h) = absurd (cc)
+silent f bytes (fault.Miscounted n lines) (inr h) = absurd (cc)
 
 pub silent-so : (f : Format) (first : Option (List ℕ)) (e : CheckFault) → IsReadFault e → IfSome first (λ bytes. Looks f bytes (Err e))
 silent-so f first e h = for_all (λ bytes. Looks f bytes (Err e)) first (λ bytes g. silent f bytes e h)

@@ -10,7 +10,7 @@ use Rattle.mr_out_check.specs.declared.seen.Times.{Times}
 use Rattle.mr_out_check.specs.declared.seen.Times.TheVariants.{Never, Once, More}
 use Rattle.mr_out_check.specs.declared.told.Told.{Told}
 use Rattle.mr_out_check.specs.declared.told.Store.{Store}
-use Rattle.mr_out_check.specs.declared.told.Store.TheVariants.{Local, Hdfs, Object}
+use Rattle.mr_out_check.specs.declared.told.Store.TheVariants.{Local, Hdfs, Object, Unknown}
 use Rattle.mr_out_check.specs.declared.premise.Premise.{Premise}
 use Rattle.mr_out_check.specs.declared.premise.Premise.TheVariants as premise
 use Rattle.mr_out_check.specs.declared.premise.Standing.{Standing}
@@ -67,6 +67,7 @@ renames_whole None = false
 renames_whole (Some Local) = true
 renames_whole (Some Hdfs) = true
 renames_whole (Some Object) = false
+renames_whole (Some Unknown) = false
 
 abbrev pub marker_standing : Seen → Standing
 marker_standing s = if came class.Marker s then Met else if came class.MarkerWithBytes s then Open else Broken

@@ -8,11 +8,16 @@
 //!   is broken; else it depends, where one is open; else `Yes`. [`standing`] tells of each premise which.
 //! - **[`put_line`]**, **[`put_report`]** and **[`put_json`]** write exactly the text of `specs/Report` and `specs/Json`: the answer, the premises that are
 //!   open or broken and why, and what was seen.
-//! - **[`look`]** reads a listing to its end, and answers what was seen exactly where the text is a listing, and the number of the first line
-//!   that is none. It says so of every reader whose bytes are known.
+//! - **[`look`]** reads a listing to its end, and answers what was seen exactly where the text is a
+//!   listing, else the number of the first line that is none, or that another number of lines
+//!   follows than its first says. It says so of every reader whose bytes are known.
 //! - **[`yes_means_marked`]**, a law: whatever was listed, and whatever is told, the answer is `Yes` only where the empty file `_SUCCESS` was listed
 //!   in the directory itself. **[`yes_means_met`]**: and only where each premise is met, as that nothing beneath `_temporary` was listed, and each part
 //!   file of the tasks that are told was.
+//! - **[`put_listing`]** decides of the store by the scheme of a listing's paths, by the table of
+//!   `specs/Schemes`, whatever is told. **[`yes_means_scheme`]**, a law: of a text whose paths
+//!   begin with an object store's scheme, or with one that is not in the table, the answer is never
+//!   `Yes`.
 //! - Only tested: the texts of faults, and that calls succeed with ample memory.
 #![tactic(auto)]
 
@@ -25,6 +30,7 @@ mod part;
 mod premise;
 mod reading;
 mod report;
+mod scheme;
 mod seen;
 mod shape;
 mod told;
@@ -34,13 +40,14 @@ mod words;
 pub use class::Class;
 pub use classes::class_of;
 pub use json::{note_values, put_json};
-pub use laws::{yes_means_marked, yes_means_met};
+pub use laws::{yes_means_marked, yes_means_met, yes_means_scheme};
 pub use part::part_of;
 pub use premise::{PREMISES, Premise, Standing};
 pub use reading::{CheckFault, Looked, look};
 pub use report::{put_line, put_notes, put_report, put_shown};
+pub use scheme::{store_at, told_at};
 pub use seen::{Note, Seen, Times};
-pub use shape::{Shape, put_answer};
+pub use shape::{Shape, put_answer, put_listing};
 pub use told::{Store, Told};
 pub use verdict::{Answer, judge, standing};
 pub use words::answer_word;

@@ -24,6 +24,9 @@ pub enum CheckFault {
     /// What the line of this number lists does not stand in the directory of the first line.
     #[error("line {0}: not beneath the directory of the first line")]
     Outside(u64),
+    /// The first line says that there are so many items, and so many lines follow.
+    #[error("line 1: {0} items, and {1} follow: the listing was cut, or two were joined")]
+    Miscounted(u64, u64),
 }
 
 impl From<AllocError> for CheckFault {
@@ -51,6 +54,7 @@ fn fault_of(fault: ListingFault) -> CheckFault
         ListingFault::NoMemory => CheckFault::NoMemory,
         ListingFault::BadLine(line) => CheckFault::BadLine(line),
         ListingFault::Outside(line) => CheckFault::Outside(line),
+        ListingFault::Miscounted(items, listed) => CheckFault::Miscounted(items, listed),
     }
 }
 
@@ -74,9 +78,13 @@ fn with_line(alloc: Global, seen: Seen, lines: &mut Lines, piece: &[u8]) -> Resu
     }
 }
 
+// What was seen, behind the last line.
 fn found(alloc: Global, seen: Seen, lines: &Lines) -> Result<Looked, CheckFault>
-    ensures { IsLooked seen result }
+    ensures { IsLooked seen lines.now result }
 {
+    if let Some(fault) = lines.fault_at_end() {
+        return Err(fault_of(fault));
+    }
     let top = match lines.top() {
         Some(top) => Vec::from_slice(alloc, top)?,
         None => Vec::new(alloc),
@@ -84,8 +92,10 @@ fn found(alloc: Global, seen: Seen, lines: &Lines) -> Result<Looked, CheckFault>
     Ok(Looked { seen, top })
 }
 
-/// Reads a listing to its end, and answers what was seen. It keeps one line at a time. `BadLine` and `Outside`: the first line that is no line of a
-/// listing of one directory. `Read`: the reader failed. `NoMemory` may come at any line.
+/// Reads a listing to its end, and answers what was seen, and with what its paths begin. It keeps
+/// one line at a time. `BadLine` and `Outside`: the first line that is no line of a listing of one
+/// directory. `Miscounted`: it says how many items it has, and another number of lines follows.
+/// `Read`: the reader failed. `NoMemory` may come at any line.
 pub fn look<R: BufRead>(alloc: Global, format: Format, reader: &mut R) -> Result<Looked, CheckFault>
     ensures { IfSome (R.remaining reader.old) (λ bytes. Looks format bytes result) }
 {

@@ -9,6 +9,8 @@ pub enum Store {
     Hdfs,
     /// In an object store, whose rename of a folder moves one object after the other.
     Object,
+    /// In a store of which nothing is known here: that of a scheme of another name.
+    Unknown,
 }
 
 /// What is told of a job, and of how its directory was listed. What is not told stays open.

@@ -1,5 +1,5 @@
 -- What a line of a listing says. The forms are those of `hdfs dfs -ls -R` (the FileSystemShell page of Hadoop) and of `find -printf '%y %s %p'` (GNU find).
-use Rattle.std.specs.Prelude.{ℕ, ◌+◌, ◌-◌, Bool, true, false, ◌&&◌, ◌||◌, not, List, [], ◌∷◌, ◌==◌, nat_lt, nat_le, nat_eq, length, take, drop, codes, Option, Some, None, unwrap_or, slice_get, if◌then◌else◌}
+use Rattle.std.specs.Prelude.{ℕ, ◌+◌, ◌-◌, ◌*◌, ◌^◌, min, Bool, true, false, ◌&&◌, ◌||◌, not, List, [], ◌∷◌, ◌==◌, nat_lt, nat_le, nat_eq, length, take, drop, codes, Option, Some, None, unwrap_or, slice_get, if◌then◌else◌}
 use Rattle.std.specs.List.{list_all}
 use Rattle.std.specs.Str.{bytes_eq}
 use Rattle.mr_script.specs.Lines.{before, after}
@@ -141,7 +141,12 @@ owned_sight kind line =
 abbrev pub hdfs_sight : List ℕ → Option Sight
 hdfs_sight line = owned_sight (kind_of_permissions (before 32 line)) (behind 32 line)
 
--- `Found 7 items`, which `-ls` prints without `-R` alone
+-- a number of decimal digits, up to 2^64 - 1, behind those of `n`
+abbrev pub number_from : ℕ → List ℕ → ℕ
+number_from n [] = n
+number_from n (b ∷ digits) = number_from (min (min (n * 10) (2 ^ 64 - 1) + (b - 48)) (2 ^ 64 - 1)) digits
+
+-- `Found 7 items`, which `-ls` prints without `-R` alone, before what it lists
 abbrev pub is_count : List ℕ → Bool
 is_count line = bytes_eq (before 32 line) (codes "Found") && is_number (before 32 (behind 32 line)) && bytes_eq (behind 32 (behind 32 line)) (codes "items")
 
@@ -153,11 +158,16 @@ sight_in Hdfs line = hdfs_sight line
 sight_in Find line = find_sight line
 sight_in Find0 line = find_sight line
 
--- a line that lists nothing, and tells that the listing is not recursive
-abbrev pub is_remark : Format → List ℕ → Bool
-is_remark Hdfs line = is_count line
-is_remark Find line = false
-is_remark Find0 line = false
+abbrev pub number_if : Bool → List ℕ → Option ℕ
+number_if false digits = None
+number_if true digits = Some (number_from 0 digits)
+
+-- how many items a line says that the listing has, where it is such a line: it lists nothing, and
+-- the listing is not recursive
+abbrev pub count_in : Format → List ℕ → Option ℕ
+count_in Hdfs line = number_if (is_count line) (before 32 (behind 32 line))
+count_in Find line = None
+count_in Find0 line = None
 
 -- ---- the ends of lines
 

@@ -1,15 +1,17 @@
--- What a whole listing says: what stands beneath the directory that is listed, in order, or the first line that says nothing of it. Our own reading.
-use Rattle.std.specs.Prelude.{◌≡◌, ℕ, ◌+◌, ◌-◌, ◌^◌, min, Bool, true, false, List, [], ◌∷◌, ◌++◌, ◌==◌, nat_eq, length, take, drop, slice_get, Option, Some, None, unwrap_or, Result, Ok, Err, if◌then◌else◌}
+-- What a whole listing says: of which directory it is, and what stands beneath that, in order; or
+-- the first line that says nothing of it; or that it has another number of items than it says
+-- itself. Our own reading.
+use Rattle.std.specs.Prelude.{◌≡◌, ℕ, ◌+◌, ◌-◌, ◌^◌, min, Bool, true, false, List, [], ◌∷◌, ◌++◌, ◌==◌, nat_eq, length, take, drop, slice_get, Option, Some, None, is_some, unwrap_or, not, Result, Ok, Err, if◌then◌else◌}
 use Rattle.std.specs.List.{starts_with}
 use Rattle.std.specs.Option.{option_map}
 use Rattle.mr_out_listing.specs.declared.entry.Entry.{Entry}
-use Rattle.mr_out_listing.specs.Lines.{Sight, as_sight, end_of, is_crlf, is_remark, line_in, sight_in}
+use Rattle.mr_out_listing.specs.Lines.{Sight, as_sight, count_in, end_of, is_crlf, line_in, sight_in}
 use Rattle.mr_out_listing.specs.declared.entry.Kind.{Kind}
 use Rattle.mr_out_listing.specs.declared.entry.Kind.TheVariants.{File, Directory, Closed, Other}
 use Rattle.mr_out_listing.specs.declared.format.Format.{Format}
 use Rattle.mr_out_listing.specs.declared.format.Format.TheVariants.{Hdfs, Find, Find0}
 use Rattle.mr_out_listing.specs.declared.fault.ListingFault.{ListingFault}
-use Rattle.mr_out_listing.specs.declared.fault.ListingFault.TheVariants.{NoMemory, BadLine, Outside}
+use Rattle.mr_out_listing.specs.declared.fault.ListingFault.TheVariants.{NoMemory, BadLine, Outside, Miscounted}
 
 -- ---- lines, each with its end
 
@@ -47,17 +49,18 @@ beneath top path = if starts_with nat_eq path top then Some (drop (length top) p
 
 -- ---- reading
 
--- how far a listing was read: how many lines, whether they end with carriage returns, and with what each path beneath the
--- directory begins. The first line tells the last two. And whether it is recursive: it is, unless a remark says that it is not
+-- how far a listing was read: how many lines, whether they end with carriage returns, and with what
+-- each path beneath the directory begins. The first line tells the last two. And how many items it
+-- says that it has, where it says so
 pub record State : Type 0 where
   pub format : Format
   pub lines : ℕ
   pub crlf : Option Bool
   pub top : Option (List ℕ)
-  pub recursive : Bool
+  pub items : Option ℕ
 
 abbrev pub start : Format → State
-start f = record { format = f; lines = 0; crlf = None; top = None; recursive = true }
+start f = record { format = f; lines = 0; crlf = None; top = None; items = None }
 
 -- lines are counted up to 2^64 - 1
 abbrev pub one_more : ℕ → ℕ
@@ -106,15 +109,18 @@ kind_in false Other = Other
 abbrev pub told_in : Bool → Sight → Sight
 told_in recursive sight = record sight { kind = kind_in recursive sight.kind }
 
--- a remark stands before all that is listed, and tells that the listing is not recursive
-abbrev pub remarked : State → Bool → Option (List ℕ) → Heard
-remarked s true None = Ok (None, record s { recursive = false })
-remarked s true (Some top) = Err (BadLine s.lines)
-remarked s false top = Err (BadLine s.lines)
+-- a listing is recursive, unless it says how many items it has
+abbrev pub is_recursive : State → Bool
+is_recursive s = not (is_some s.items)
+
+-- how many items it has is said by the first line alone
+abbrev pub remarked : State → Option ℕ → Heard
+remarked s None = Err (BadLine s.lines)
+remarked s (Some n) = if s.lines == 1 then Ok (None, record s { items = Some n }) else Err (BadLine s.lines)
 
 abbrev pub heard_line : State → List ℕ → Option Sight → Heard
-heard_line s line (Some sight) = placed s (told_in s.recursive sight) s.top
-heard_line s line None = remarked s (is_remark s.format line) s.top
+heard_line s line (Some sight) = placed s (told_in (is_recursive s) sight) s.top
+heard_line s line None = remarked s (count_in s.format line)
 
 abbrev pub heard_in : State → Option (List ℕ) → Heard
 heard_in s None = Err (BadLine s.lines)
@@ -127,21 +133,44 @@ crlf_of s = unwrap_or s.crlf false
 abbrev pub heard : State → List ℕ → Heard
 heard s piece = heard_in (counted s piece) (line_in s.format (crlf_of (counted s piece)) piece)
 
--- what is read of a listing: what stands beneath the directory, in order, or the first fault
-abbrev pub onto : Option Sight → Result (List Sight) ListingFault → Result (List Sight) ListingFault
+-- what a whole listing says: with what each path beneath the directory begins (nothing, where it
+-- lists nothing), and what stands there, in order
+pub record Listed : Type 0 where
+  pub front : List ℕ
+  pub sights : List Sight
+
+-- a listing that says how many items it has, has as many lines behind the first: with another
+-- number it was cut, or two were joined
+abbrev pub miscounted : Option ℕ → ℕ → Option ListingFault
+miscounted None lines = None
+miscounted (Some n) lines = if n == lines then None else Some (Miscounted n lines)
+
+abbrev pub fault_at_end : State → Option ListingFault
+fault_at_end s = miscounted s.items (s.lines - 1)
+
+abbrev pub ended_by : State → Option ListingFault → Result Listed ListingFault
+ended_by s None = Ok (record { front = unwrap_or s.top []; sights = [] })
+ended_by s (Some fault) = Err fault
+
+-- behind the last line
+abbrev pub ended : State → Result Listed ListingFault
+ended s = ended_by s (fault_at_end s)
+
+-- what is read of a listing, or the first fault
+abbrev pub onto : Option Sight → Result Listed ListingFault → Result Listed ListingFault
 onto None told = told
-onto (Some sight) (Ok sights) = Ok (sight ∷ sights)
+onto (Some sight) (Ok listed) = Ok (record listed { sights = sight ∷ listed.sights })
 onto (Some sight) (Err fault) = Err fault
 
-abbrev pub said_on : Heard → (State → Result (List Sight) ListingFault) → Result (List Sight) ListingFault
+abbrev pub said_on : Heard → (State → Result Listed ListingFault) → Result Listed ListingFault
 said_on (Err fault) more = Err fault
 said_on (Ok told) more = onto told.0 (more told.1)
 
-abbrev pub said_by : State → List (List ℕ) → Result (List Sight) ListingFault
-said_by s [] = Ok []
+abbrev pub said_by : State → List (List ℕ) → Result Listed ListingFault
+said_by s [] = ended s
 said_by s (piece ∷ pieces) = said_on (heard s piece) (λ next. said_by next pieces)
 
-abbrev pub said : Format → List ℕ → Result (List Sight) ListingFault
+abbrev pub said : Format → List ℕ → Result Listed ListingFault
 said f text = said_by (start f) (pieces_of (end_of f) text)
 
 abbrev pub as_told : Option Entry → Option Sight
@@ -165,6 +194,7 @@ AnswersBy said (Ok told) new = said ≡ Ok (as_told told, new)
 AnswersBy said (Err NoMemory) new = Unit {0}
 AnswersBy said (Err (BadLine n)) new = said ≡ Err (BadLine n)
 AnswersBy said (Err (Outside n)) new = said ≡ Err (Outside n)
+AnswersBy said (Err (Miscounted n lines)) new = ⊥
 
 abbrev pub Answers : State → List ℕ → Result (Option Entry) ListingFault → State → Type 0
 Answers old piece result new = AnswersBy (heard old piece) result new

@@ -17,6 +17,9 @@ pub enum ListingFault {
     /// What the line of this number lists does not stand in the directory that is listed.
     #[error("line {0}: not beneath the directory of the first line")]
     Outside(u64),
+    /// The first line says that there are so many items, and so many lines follow.
+    #[error("line 1: {0} items, and {1} follow")]
+    Miscounted(u64, u64),
 }
 
 impl From<AllocError> for ListingFault {

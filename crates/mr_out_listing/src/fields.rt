@@ -2,7 +2,7 @@
 ghost use Rattle.std.specs.Prelude.{◌≡◌};
 ghost use Rattle.std.specs.List.{list_all};
 ghost use Rattle.mr_script.specs.Lines.{before};
-ghost use Rattle.mr_out_listing.specs.Lines.{behind, has_digits, is_digit, is_number, is_zero, unspaced, word, rest};
+ghost use Rattle.mr_out_listing.specs.Lines.{behind, has_digits, is_digit, is_number, is_zero, number_from, unspaced, word, rest};
 
 use mr_script::split_once;
 
@@ -69,6 +69,19 @@ pub(crate) fn is_number(word: &[u8]) -> bool
     ensures { result ≡ is_number word.now }
 {
     0 < word.len() && are_digits(word)
+}
+
+// The number of these decimal digits, up to 2^64 - 1.
+pub(crate) fn number_of(digits: &[u8]) -> u64
+    ensures { result ≡ number_from 0 digits.now }
+{
+    let mut number: u64 = 0;
+    for digit in digits {
+        number = number
+            .saturating_mul(10)
+            .saturating_add(u64::from(digit.saturating_sub(b'0')));
+    }
+    number
 }
 
 /// Whether the word is a number of just this many digits.

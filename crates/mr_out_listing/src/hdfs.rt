@@ -2,11 +2,14 @@
 ghost use Rattle.std.specs.Prelude.{◌≡◌, ◌<◌, length};
 ghost use Rattle.std.specs.List.{list_all};
 ghost use Rattle.std.specs.Option.{option_map};
-ghost use Rattle.mr_out_listing.specs.Lines.{are_modes, as_sight, dated_sight, has_word, hdfs_sight, is_count, is_date, is_mode, is_replication, is_time, kind_of_mode, kind_of_permissions, owned_sight, sized_behind, sized_sight};
+ghost use Rattle.mr_out_listing.specs.Lines.{are_modes, as_sight, dated_sight, has_word, hdfs_sight, count_in, is_count, is_date, is_mode, is_replication, is_time, kind_of_mode, kind_of_permissions, owned_sight, sized_behind, sized_sight};
+ghost use Rattle.mr_out_listing.specs.declared.format.Format.TheVariants.{Hdfs};
 ghost use Rattle.mr_out_listing.specs.inner.Blanks.{sized_at};
 
 use crate::entry::{Entry, Kind};
-use crate::fields::{before, behind, has_digits, is_number, is_zero, rest, unspaced, word};
+use crate::fields::{
+    before, behind, has_digits, is_number, is_zero, number_of, rest, unspaced, word,
+};
 
 fn is_mode(letter: u8) -> bool
     ensures { result ≡ is_mode letter }
@@ -152,11 +155,22 @@ pub(crate) fn hdfs_entry(line: &[u8]) -> Option<Entry<'_>>
 }
 
 // Whether the line is `Found 7 items`.
-pub(crate) fn is_count(line: &[u8]) -> bool
+fn is_count(line: &[u8]) -> bool
     ensures { result ≡ is_count line.now }
 {
     let counted = behind(line, b' ');
     before(line, b' ') == b"Found".as_slice()
         && is_number(before(counted, b' '))
         && behind(counted, b' ') == b"items".as_slice()
+}
+
+// How many items the line says that the listing has, if it is `Found 7 items`.
+pub(crate) fn hdfs_count(line: &[u8]) -> Option<u64>
+    ensures { result ≡ count_in Hdfs line.now }
+{
+    if is_count(line) {
+        Some(number_of(before(behind(line, b' '), b' ')))
+    } else {
+        None
+    }
 }

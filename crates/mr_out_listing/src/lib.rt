@@ -8,7 +8,9 @@
 //!   `specs/Reading`): what it lists, by its name beneath the directory, or that it lists nothing. Its faults tell the
 //!   number of the line. A line that has no end is refused, since it may have been cut. So of a whole text, each line of
 //!   which was answered, the answers together are what the text says (`said`).
-//! - Where the first line is `Found 7 items` the listing is not recursive, and each folder in it is `Kind::Closed`.
+//! - Where the first line is `Found 7 items` the listing is not recursive, and each folder in it is
+//!   `Kind::Closed`. Where another number of lines follows, [`Lines::fault_at_end`] says so: such a
+//!   text is no listing.
 //! - The directory is the first line's of `find`. Of `hdfs` it is that in which the first line's path stands. A path that is
 //!   not beneath it is refused.
 //! - Only tested: the texts of faults, and that calls succeed with ample memory.

@@ -1,25 +1,25 @@
 //! The lines of a listing, one after another.
 ghost use Rattle.std.specs.Prelude.{◌≡◌, option_copied};
-ghost use Rattle.mr_out_listing.specs.Lines.{as_sight, is_remark, sight_in};
-ghost use Rattle.mr_out_listing.specs.Reading.{Answers, AnswersBy, counted, heard_line, kind_in, Names, opened, opened_by_find, placed, remarked, start, told_in};
+ghost use Rattle.mr_out_listing.specs.Lines.{as_sight, count_in, sight_in};
+ghost use Rattle.mr_out_listing.specs.Reading.{Answers, AnswersBy, counted, fault_at_end, heard_line, is_recursive, kind_in, Names, opened, opened_by_find, placed, remarked, start, told_in};
 
 use crate::ends::{beneath, folder_of, is_crlf, line_in, slashed};
 use crate::entry::{Entry, Kind, listed};
 use crate::fault::ListingFault;
 use crate::format::Format;
-use crate::hdfs::is_count;
+use crate::hdfs::hdfs_count;
 use std::alloc::Global;
 use std::marker::Model;
 
 /// A listing that is read line by line. Contracts see it as how far it was read (`State`): how many lines, how they end, which directory it is of, and
-/// whether it is recursive.
+/// how many items it says that it has.
 #[derive(Debug, Drop)]
 pub struct Lines {
     format: Format,
     lines: u64,
     crlf: Option<bool>,
     top: Option<Vec<u8>>,
-    recursive: bool,
+    items: Option<u64>,
 }
 
 impl Model for Lines {
@@ -28,7 +28,7 @@ impl Model for Lines {
 
     ghost Value = { reading.State };
 
-    ghost view = { λ l. record { format = l.format; lines = l.lines; crlf = l.crlf; top = option_map (λ t. t.items) l.top; recursive = l.recursive } };
+    ghost view = { λ l. record { format = l.format; lines = l.lines; crlf = l.crlf; top = option_map (λ t. t.items) l.top; items = l.items } };
 }
 
 impl Lines {
@@ -41,7 +41,7 @@ impl Lines {
             lines: 0,
             crlf: None,
             top: None,
-            recursive: true,
+            items: None,
         }
     }
 
@@ -77,20 +77,29 @@ impl Lines {
         ensures { AnswersBy (heard_line self.old line.now (sight_in self.old.format line.now)) result self.new }
     {
         match listed(self.format, line) {
-            Some(entry) => self.place(alloc, told_in(self.recursive, entry)),
+            Some(entry) => self.place(alloc, told_in(self.is_recursive(), entry)),
             None => self.remark(line),
         }
     }
 
-    // What a line says that lists nothing. A remark stands before all that is listed, and tells that the listing is not recursive.
-    fn remark<'a>(&mut self, line: &'a [u8]) -> Result<Option<Entry<'a>>, ListingFault>
-        ensures { AnswersBy (remarked self.old (is_remark self.old.format line.now) self.old.top) result self.new }
+    // Whether the listing is recursive, as far as it was read.
+    fn is_recursive(&self) -> bool
+        ensures { result ≡ is_recursive self.now }
     {
-        if self.top.is_some() || !is_remark(self.format, line) {
-            return Err(ListingFault::BadLine(self.lines));
+        self.items.is_none()
+    }
+
+    // What a line says that lists nothing: the first may say how many items follow.
+    fn remark<'a>(&mut self, line: &'a [u8]) -> Result<Option<Entry<'a>>, ListingFault>
+        ensures { AnswersBy (remarked self.old (count_in self.old.format line.now)) result self.new }
+    {
+        match count_in(self.format, line) {
+            Some(items) if self.lines == 1 => {
+                self.items = Some(items);
+                Ok(None)
+            }
+            _ => Err(ListingFault::BadLine(self.lines)),
         }
-        self.recursive = false;
-        Ok(None)
     }
 
     // What is listed, by its name beneath the directory.
@@ -139,6 +148,20 @@ impl Lines {
         Ok(None)
     }
 
+    /// Behind the last line: whether the listing ends there. `Miscounted`: it says how many items
+    /// it has, and another number of lines follows, so it was cut, or two were joined.
+    pub fn fault_at_end(&self) -> Option<ListingFault>
+        ensures { result ≡ fault_at_end self.now }
+    {
+        let items = self.items?;
+        let listed = self.lines.saturating_sub(1);
+        if items == listed {
+            None
+        } else {
+            Some(ListingFault::Miscounted(items, listed))
+        }
+    }
+
     /// With what the paths beneath the directory begin: nothing before the first line that lists anything.
     pub fn top(&self) -> Option<&[u8]>
         ensures { option_copied result ≡ self.now.top }
@@ -184,9 +207,12 @@ fn told_in(recursive: bool, entry: Entry<'_>) -> Entry<'_>
     }
 }
 
-// Whether a line lists nothing, and tells that the listing is not recursive.
-fn is_remark(format: Format, line: &[u8]) -> bool
-    ensures { result ≡ is_remark format line.now }
+// How many items a line says that the listing has, if it is such a line.
+fn count_in(format: Format, line: &[u8]) -> Option<u64>
+    ensures { result ≡ count_in format line.now }
 {
-    format == Format::Hdfs && is_count(line)
+    match format {
+        Format::Hdfs => hdfs_count(line),
+        Format::Find | Format::Find0 => None,
+    }
 }

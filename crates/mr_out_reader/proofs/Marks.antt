@@ -14,13 +14,13 @@ use Rattle.mr_world_model.specs.World.{World, Event}
 use Rattle.mr_world_model.specs.Claims.{IsComplete, IsMarked, Limits, world_of}
 use Rattle.mr_world_model.proofs.Outcomes.{marker_means_complete, no_later_event}
 use Rattle.mr_out_listing.specs.Lines.{Sight}
-use Rattle.mr_out_listing.specs.Reading.{said}
+use Rattle.mr_out_listing.specs.Reading.{Listed, said}
 use Rattle.mr_out_listing.specs.declared.entry.Kind.TheVariants as kind
 use Rattle.mr_out_listing.specs.declared.fault.ListingFault.{ListingFault}
 use Rattle.mr_out_listing.specs.declared.format.Format.{Format}
 use Rattle.mr_out_check.specs.Laws.{Among, the_marker}
-use Rattle.mr_out_check.specs.Seen.{Seen, nothing, seen_all}
-use Rattle.mr_out_check.specs.Readings.{looked, seen_said}
+use Rattle.mr_out_check.specs.Seen.{nothing, seen_all}
+use Rattle.mr_out_check.specs.Readings.{Found, looked, seen_said}
 use Rattle.mr_out_check.specs.Verdicts.{answer}
 use Rattle.mr_out_check.specs.declared.told.Told.{Told}
 use Rattle.mr_out_check.specs.declared.verdict.Answer.TheVariants.{Yes}
@@ -68,13 +68,14 @@ yes-is-whole cfg within es sights told all affirmed =
     let marked = marked-later cfg within es stood.0 (marked-then (world_of cfg within (take stood.0 es)) stood.1) in
     (marked, marker_means_complete cfg within es marked)
 
-abbrev seen-ok : Seen → Result Seen ListingFault
-seen-ok u = Ok u
+abbrev found-ok : Found → Result Found ListingFault
+found-ok f = Ok f
 
-ok-is : (a b : Seen) → seen-ok a ≡ seen-ok b → a ≡ b
+ok-is : (a b : Found) → found-ok a ≡ found-ok b → a ≡ b
 ok-is a b e = cc
 
 pub yes-of-text-is-whole : YesOfTextIsWhole
-yes-of-text-is-whole cfg within es format text sights seen told says all sees affirmed =
-    let same : seen_all sights nothing ≡ seen = ok-is (seen_all sights nothing) seen (ap (seen_said nothing) (sym says) ∙ sees) in
-    yes-is-whole cfg within es sights told all (ap (λ s. answer s told) same ∙ affirmed)
+yes-of-text-is-whole cfg within es format text listed found told says all sees affirmed =
+    let of : Found = record { seen = seen_all listed.sights nothing; front = listed.front } in
+    let same : of ≡ found = ok-is of found (ap (seen_said nothing) (sym says) ∙ sees) in
+    yes-is-whole cfg within es listed.sights told all (ap (λ (f : Found). answer f.seen told) same ∙ affirmed)

@@ -9,11 +9,11 @@ use Rattle.mr_world_model.specs.Packets.{Config}
 use Rattle.mr_world_model.specs.World.{World, Event}
 use Rattle.mr_world_model.specs.Claims.{IsComplete, IsMarked, Limits, world_of}
 use Rattle.mr_out_listing.specs.Lines.{Sight}
-use Rattle.mr_out_listing.specs.Reading.{said}
+use Rattle.mr_out_listing.specs.Reading.{Listed, said}
 use Rattle.mr_out_listing.specs.declared.entry.Kind.TheVariants as kind
 use Rattle.mr_out_listing.specs.declared.format.Format.{Format}
-use Rattle.mr_out_check.specs.Seen.{Seen, nothing, seen_all}
-use Rattle.mr_out_check.specs.Readings.{looked}
+use Rattle.mr_out_check.specs.Seen.{nothing, seen_all}
+use Rattle.mr_out_check.specs.Readings.{Found, looked}
 use Rattle.mr_out_check.specs.Verdicts.{answer}
 use Rattle.mr_out_check.specs.declared.told.Told.{Told}
 use Rattle.mr_out_check.specs.declared.verdict.Answer.TheVariants.{Yes}
@@ -44,6 +44,6 @@ YesIsWhole = (cfg : Config) (within : Limits) (es : List Event) (sights : List S
 
 -- the same of a text, in each format
 abbrev pub YesOfTextIsWhole : Type 0
-YesOfTextIsWhole = (cfg : Config) (within : Limits) (es : List Event) (format : Format) (text : List ℕ) (sights : List Sight) (seen : Seen) (told : Told) →
-    said format text ≡ Ok sights → AllByRecursion (Stood cfg within es) sights → looked format text ≡ Ok seen → answer seen told ≡ Yes →
+YesOfTextIsWhole = (cfg : Config) (within : Limits) (es : List Event) (format : Format) (text : List ℕ) (listed : Listed) (found : Found) (told : Told) →
+    said format text ≡ Ok listed → AllByRecursion (Stood cfg within es) listed.sights → looked format text ≡ Ok found → answer found.seen told ≡ Yes →
     IsMarked (world_of cfg within es) × IsComplete cfg (world_of cfg within es)

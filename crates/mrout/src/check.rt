@@ -3,7 +3,7 @@ use crate::ending::Ending;
 use crate::request::Request;
 use crate::walk::{Marker, Walked, list, look_at_marker};
 use crate::winners::put_winners;
-use mr_out_check::{Answer, CheckFault, Looked, Shape, Told, look, put_answer};
+use mr_out_check::{Answer, CheckFault, Looked, Shape, Told, look, put_answer, put_listing};
 use mr_out_layout::{Fault, read_recorded};
 use mr_out_listing::Format;
 use std::alloc::{AllocError, Global};
@@ -32,7 +32,7 @@ fn ending_of_fault(rt: &impl Eprint, name: &str, fault: CheckFault) -> Ending {
             let _ = eprintln!(rt; "mrout: {name}: {fault}");
             Ending::CallFailed
         }
-        CheckFault::BadLine(_) | CheckFault::Outside(_) => {
+        CheckFault::BadLine(_) | CheckFault::Outside(_) | CheckFault::Miscounted(_, _) => {
             let _ = eprintln!(rt; "mrout: {name}: {fault}");
             Ending::RefusedInput
         }
@@ -130,7 +130,7 @@ fn check_listing<R: Files + Input + Print + Eprint>(
         let name = name.unwrap_or(STANDARD_INPUT);
         let _ = eprintln!(rt; "mrout: {name}: the listing is empty");
     }
-    let answer = put_answer(&mut text, alloc, shape, dir, &looked.seen, told);
+    let answer = put_listing(&mut text, alloc, shape, dir, &looked, told);
     match print_answer(&mut io::writer(rt), &text, answer) {
         Ok(answer) => Ending::Answered(answer),
         Err(error) => ending_of_print(rt, error),

@@ -35,7 +35,9 @@ Lists each DIR of this machine; or, with --listing, reads each FILE, or standard
   hdfs    hdfs dfs -ls -R DIR    (without -R `work` stays open where _temporary is listed)
   find    find DIR -printf '%y %s %p\\n'
   find0   find DIR -printf '%y %s %p\\0'
-Other listings are not read. Prints `yes: DIR`, `no: DIR: WHY` or `it depends: DIR: WHAT IS OPEN`; of one directory then
+Other listings are not read; nor is one that says `Found N items`, where another number of lines follows. The scheme of
+its paths, as s3a://, decides over --store; of an object store, and of a scheme that is not known, the answer is never yes.
+Prints `yes: DIR`, `no: DIR: WHY` or `it depends: DIR: WHAT IS OPEN`; of one directory then
 what was seen, and each premise that is not met, with the word that settles it. Of several directories a line each, and
 the status of the worst. What is not told stays open, and then the answer is never yes. The rule is that of the
 committer of Hadoop MapReduce, algorithm version 1. What other engines make is told as what it is.
