@@ -41,7 +41,7 @@ may-by w told true is h = inr (inr is)
 may-by w told false is h = placed w (whole-by (is_local w) (is_hdfs w) (is_object w) h)
 
 pub yes-scheme : YesMeansScheme
-yes-scheme format text found told looks has yes =
+yes-scheme format text found told looks has answered =
     let w = before 58 found.front in
-    let met = met-true (renames_whole (store_at found.front told.store)) (yes-met found.seen (told_at found.front told) premise.Store yes) in
+    let met = met-true (renames_whole (store_at found.front told.store)) (yes-met found.seen (told_at found.front told) premise.Store answered) in
     may-by w told.store (is_view w) refl (ap (λ b. renames_whole (at_by b (is_view w) w told.store)) (sym has) ∙ met)
